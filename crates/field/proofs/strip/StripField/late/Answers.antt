@@ -1,0 +1,12 @@
+use mathlib.Core.Path.{sym, ap, _∙_}
+use native.Mathlib.Omega.{arith}
+use Rattle.std.proofs.shelf.Signed.{ints}
+use Rattle.field.specs.Windows.{Window}
+use Rattle.field.proofs.Records.{record-read, record-past}
+use Rattle.field.proofs.strip.StripField.late.Needs as need
+
+pub returns-then-place-self : need.returns-then-place-self
+returns-then-place-self c = omega (arith, ints, ap (λ (w : Window). w .late) (record-read _ _ (c .if-place-self .taken)))
+
+pub returns-else-place-self : need.returns-else-place-self
+returns-else-place-self c = ap (λ (w : Window). w .late) (sym (record-past _ _ (c .if-place-self .left)))
