@@ -1,2 +1,4 @@
 pub mod Windows
+pub mod Reversed
+pub mod Held
 pub mod Strip
