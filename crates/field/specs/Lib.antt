@@ -2,3 +2,4 @@ pub mod Windows
 pub mod Reversed
 pub mod Held
 pub mod Strip
+pub mod Refusals

@@ -6,6 +6,7 @@
 
 pub mod held;
 pub mod interface;
+pub mod refusal;
 pub mod reversed;
 pub mod strip;
 pub mod window;
@@ -15,6 +16,8 @@ pub use held::HeldField;
 pub use held::HeldNumbered;
 pub use interface::Field;
 pub use interface::Numbered;
+pub use refusal::Refusal;
+pub use refusal::RefusalDisplay;
 pub use reversed::Reversed;
 pub use reversed::ReversedField;
 pub use reversed::ReversedNumbered;
