@@ -1,0 +1,5 @@
+pub mod Orders
+pub mod Closed
+pub mod Lookups
+pub mod Method
+pub mod Written
