@@ -3,3 +3,4 @@ pub mod Closed
 pub mod Lookups
 pub mod Method
 pub mod Written
+pub mod Theorem
