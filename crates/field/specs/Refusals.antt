@@ -1,5 +1,11 @@
 -- The thirteen questions by number: a refusal returns the number of the first that is answered no.
+use mathlib.Core.Bool.{Bool, cond}
+use mathlib.Core.List.{List, [], _∷_}
 use Prim.Native.Nat.{ℕ}
+use Rattle.std.specs.declared.option.Option.{Option}
+use Rattle.std.specs.declared.option.Option.the-variants.{Some, None}
+use Rattle.std.specs.declared.result.Result.{Result}
+use Rattle.std.specs.declared.result.Result.the-variants.{Ok, Err}
 use Rattle.field.specs.declared.refusal.Refusal.{Refusal}
 use Rattle.field.specs.declared.refusal.Refusal.the-variants.{TrialOpen, WrongSlip, PaceOutOfRange, TooManyGroups, NumberOutOfRange, TimeOutOfRange, EarlyAfterLate, Unknown, NumberTaken, WrongStanding, OutsideWindow, ListTooShort, NoOrder}
 
@@ -17,3 +23,21 @@ number-of WrongStanding = 10
 number-of OutsideWindow = 11
 number-of ListTooShort = 12
 number-of NoOrder = 13
+
+-- a result with its refusal told by number
+abbrev pub by-number : {X : Type 0} → Result X Refusal → Result X ℕ
+by-number (Ok x) = Ok x
+by-number (Err q) = Err (number-of q)
+
+-- a question by its number, and whether it is answered yes
+pub record Question : Type 0 where
+  pub number : ℕ
+  pub yes : Bool
+
+abbrev pub question : ℕ → Bool → Question
+question n b = record { number = n; yes = b }
+
+-- questions are put in their order, and the first no decides: its number
+abbrev pub first-no : List Question → Option ℕ
+first-no [] = None
+first-no (q ∷ qs) = cond (q .yes) (first-no qs) (Some (q .number))

@@ -1,0 +1,10 @@
+pub mod Lookups
+pub mod Steps-back
+pub mod Rest
+pub mod Plain
+pub mod Turn
+pub mod Every
+pub mod Asked
+pub mod Unused
+pub mod Playing
+pub mod Listed

@@ -1,0 +1,6 @@
+pub mod Questions
+pub mod Lists
+pub mod Spans
+pub mod Order
+pub mod Values
+pub mod Told

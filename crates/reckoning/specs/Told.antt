@@ -1,0 +1,16 @@
+-- What a reckoning tells.
+use mathlib.Core.List.{List, reverse}
+use lib.ListN.{take}
+use Rattle.std.specs.declared.option.Option.{Option}
+use Rattle.std.specs.declared.option.Option.the-variants.{Some, None}
+use Rattle.theory.specs.declared.span.Span.{Span}
+use Rattle.reckoning.specs.declared.found.Closed.{Closed}
+
+-- in the order found
+abbrev pub spans-of : Closed → List Span
+spans-of c = take (c .len) (c .spans)
+
+-- the newest first
+abbrev pub told : Option Closed → Option (List Span)
+told None = None
+told (Some c) = Some (reverse (spans-of c))
