@@ -1,6 +1,7 @@
 //! A closed span of times.
 
 /// The times first..last, both included, at which no group starts.
+#[repr(C)]
 #[derive(Clone, Copy)]
 pub struct Span {
     pub first: i64,
