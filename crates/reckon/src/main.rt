@@ -14,6 +14,7 @@ use std::env;
 use std::io;
 use std::io::Read;
 use theory::Span;
+use theory::SpanDisplay;
 
 /// The pace where no argument names one, in seconds.
 const USUAL_PACE: u16 = 480;
@@ -34,7 +35,7 @@ fn named_pace(rt: &LibcRuntime) -> io::Result<Option<u16>> {
 /// A line for each of the first `count` spans.
 fn tell_spans(rt: &LibcRuntime, spans: &[Span], count: usize) -> io::Result<()> {
     for span in spans.iter().take(count) {
-        println!(rt, "closed {}..{}", span.first, span.last)?;
+        println!(rt, "closed {span}")?;
     }
     Ok(())
 }
@@ -72,7 +73,10 @@ fn tell(rt: &LibcRuntime, strip: &Strip, pace: u16) -> io::Result<()> {
 
 fn main(rt: LibcRuntime) -> io::Result<()> {
     let Some(pace) = named_pace(&rt)? else {
-        println!(rt, "bad argument: give the pace alone, in whole seconds from 1 to 3600")?;
+        println!(
+            rt,
+            "bad argument: give the pace alone, in whole seconds from 1 to 3600"
+        )?;
         return Err(io::Error::from(io::ErrorKind::InvalidInput));
     };
     let mut bytes = Vec::new(rt.alloc());
@@ -81,7 +85,7 @@ fn main(rt: LibcRuntime) -> io::Result<()> {
     let strip = Strip {
         bytes: bytes.as_slice(),
     };
-    println!(rt, "{} groups, pace {pace}", strip.count())?;
+    println!(rt, "groups {}, pace {pace}", strip.count())?;
     let torn = bytes.len() % 10;
     if torn != 0 {
         println!(rt, "ignored a torn last record of {torn} bytes")?;

@@ -13,3 +13,4 @@ mod values;
 mod windows;
 
 pub use start::Start;
+pub use start::StartDisplay;

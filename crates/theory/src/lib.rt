@@ -9,3 +9,4 @@ pub mod theorem;
 pub use group::Group;
 pub use group::Played;
 pub use span::Span;
+pub use span::SpanDisplay;

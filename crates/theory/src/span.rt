@@ -1,9 +1,19 @@
 //! A closed span of times.
 
+use std::fmt;
+
 /// The times first..last, both included, at which no group starts.
 #[repr(C)]
 #[derive(Clone, Copy)]
 pub struct Span {
     pub first: i64,
     pub last: i64,
+}
+
+pub impl fmt::Display for Span as SpanDisplay {
+    fn fmt<W: fmt::Write>(&self, f: &mut fmt::Formatter<W>) -> fmt::Result {
+        let first = self.first;
+        let last = self.last;
+        write!(f, "{first}..{last}")
+    }
 }

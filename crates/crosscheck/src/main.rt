@@ -1,0 +1,12 @@
+//! Runs the examples of the rules and prints what was told. The gate compares it with `stdout`.
+
+mod fields;
+
+use std::io;
+
+fn main(rt: LibcRuntime) -> io::Result<()> {
+    fields::samples(&rt)?;
+    fields::crowded(&rt)?;
+    fields::short_lists(&rt)?;
+    fields::piles(&rt)
+}
