@@ -3,8 +3,10 @@
 ghost use Prim.Native.Nat.{_<_};
 ghost use Rattle.field.specs.Windows.{window};
 ghost use Rattle.field.specs.Held.{held-told};
-ghost use lib.ListN.{set};
+ghost use lib.Dec.{eqb, ltb};
+ghost use lib.ListN.{length, set};
 ghost use lib.Signed.{mag};
+ghost use mathlib.Core.Bool.{_&&_};
 ghost use mathlib.Core.Path.{_≡_};
 use crate::interface::Field;
 use crate::interface::Numbered;
@@ -34,6 +36,15 @@ impl<F> Held<F> {
     }
 }
 
+impl<F: Field> Held<F> {
+    /// Whether a place is the one that is held. It is not if it lies outside the field.
+    fn is_held(&self, place: usize) -> bool
+        ensures { λ r. ⌜ r ≡ (eqb place (now (self .entry) .place) && ltb place (length (F·Field .windows (now (self .entry) .below)))) ⌝ }
+    {
+        place == self.place && place < self.below.count()
+    }
+}
+
 pub impl<F: Field> Field for Held<F> as HeldField {
     ghost windows = { λ s. set (F·Field .windows (s .below)) (s .place) (window (s .early) (s .late)) };
 
@@ -44,7 +55,7 @@ pub impl<F: Field> Field for Held<F> as HeldField {
     }
 
     fn early(&self, place: usize) -> i64 {
-        if place == self.place && place < self.below.count() {
+        if self.is_held(place) {
             i64::from(self.early)
         } else {
             self.below.early(place)
@@ -52,7 +63,7 @@ pub impl<F: Field> Field for Held<F> as HeldField {
     }
 
     fn late(&self, place: usize) -> i64 {
-        if place == self.place && place < self.below.count() {
+        if self.is_held(place) {
             i64::from(self.late)
         } else {
             self.below.late(place)

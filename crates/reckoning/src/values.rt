@@ -103,8 +103,8 @@ pub fn least(windows: &[Window], values: &[i64], cap: i64) -> i64
     ensures { λ r. ⌜ r ≡ folded minZ cap (lows (now (windows .entry)) (now (values .entry))) ⌝ }
 {
     let mut m = cap;
-    for j in 0..windows.len() {
-        m = lesser(windows[j], values[j], m);
+    for place in 0..windows.len() {
+        m = lesser(windows[place], values[place], m);
     }
     m
 }

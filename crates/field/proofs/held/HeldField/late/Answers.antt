@@ -1,15 +1,18 @@
+use mathlib.Core.Path.{sym, ap, _∙_}
 use native.Mathlib.Omega.{arith}
-use mathlib.Core.Path.{ap}
 use Rattle.std.proofs.shelf.Signed.{ints}
 use Rattle.field.specs.Windows.{Window, window}
-use Rattle.field.proofs.Set-once.{set-past-at, set-other-at}
+use Rattle.field.proofs.Set-once.{set-here, set-elsewhere}
 use Rattle.field.proofs.held.HeldField.late.Needs as need
-use Rattle.field.proofs.held.HeldField.late.Needs.{else-place-self·by·then-place-self·else-place-count, else-place-self·by·else-place-self}
 
-pub returns-else-place-self : need.returns-else-place-self
-returns-else-place-self g c =
-    let ws = g .F·Field .windows (c .args .self .now .below) in
-    elim (c .else-place-self .came) [
-      | else-place-self·by·then-place-self·else-place-count w ↦ omega (arith, ints, ap (λ (w : Window). w .late) (set-past-at ws (c .args .self .now .place) (c .args .place) (window (c .args .self .now .early) (c .args .self .now .late)) (omega arith)))
-      | else-place-self·by·else-place-self w ↦ omega (arith, ints, ap (λ (w : Window). w .late) (set-other-at ws (c .args .self .now .place) (c .args .place) (window (c .args .self .now .early) (c .args .self .now .late)) (w .if-place-self .left)))
-    ]
+pub returns-then-is-held : need.returns-then-is-held
+returns-then-is-held g c =
+    let s = c .args .self .now in
+    let h = set-here (g .F·Field .windows (s .below)) (s .place) (c .args .place) (window (s .early) (s .late)) (sym (c .is-held .ensures) ∙ c .if-is-held .taken) in
+    omega (arith, ints, ap (λ (w : Window). w .late) h)
+
+pub returns-else-is-held : need.returns-else-is-held
+returns-else-is-held g c =
+    let s = c .args .self .now in
+    let h = set-elsewhere (g .F·Field .windows (s .below)) (s .place) (c .args .place) (window (s .early) (s .late)) (sym (c .is-held .ensures) ∙ c .if-is-held .left) in
+    omega (arith, ints, ap (λ (w : Window). w .late) h)
