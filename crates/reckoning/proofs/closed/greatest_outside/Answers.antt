@@ -1,3 +1,4 @@
+use borrow.Author.Needs.{needs}
 use mathlib.Core.Path.{_≡_, sym, ap, _∙_}
 use native.Mathlib.Omega.{arith}
 use lib.IntN.{pos}
@@ -10,7 +11,7 @@ use Rattle.reckoning.proofs.Plain.{real}
 use Rattle.reckoning.proofs.closed.greatest_outside.Needs as need
 
 pub before-low-requires : need.before-low-requires
-before-low-requires c κs = all-getD Fit (c .args .found .now) (c .loop-i .i) (record { first = pos 0; last = pos 0 }) (c .loop-i-test .taken) (c .pre .fit)
+before-low-requires c κs = all-getD Fit (c .args .found .now) (c .loop-i .i) (record { first = pos 0; last = pos 0 }) (search needs) (c .pre .fit)
 
 pub loop-i-holds : need.loop-i-holds
 loop-i-holds c = sym (below-none _)
@@ -18,7 +19,7 @@ loop-i-holds c = sym (below-none _)
 pub loop-i-again : need.loop-i-again
 loop-i-again c =
     real (c .before-low .result) (c .before-low .ok)
-    ∙ below-step (c .args .found .now) (c .loop-i .i) (record { first = pos 0; last = pos 0 }) _ _ _ (c .loop-i-test .taken) (c .pre .falling) (c .loop-i .inv) (c .before-low .ensures)
+    ∙ below-step (c .args .found .now) (c .loop-i .i) (record { first = pos 0; last = pos 0 }) _ _ _ (search needs) (c .pre .falling) (c .loop-i .inv) (c .before-low .ensures)
 
 pub returns : need.returns
 returns c = grind (arith, toZ-ofZ, take-all)
