@@ -3,7 +3,7 @@
 ghost use Rattle.field.specs.Reversed.{turned};
 ghost use Rattle.field.specs.Strip.{records};
 ghost use Rattle.field.specs.Windows.{window, early-at, late-at};
-ghost use lib.IntN.{pos, negsuc};
+ghost use lib.IntN.{negsuc};
 ghost use lib.ListN.{set};
 ghost use mathlib.Core.List.{map};
 ghost use mathlib.Core.Path.{_≡_};
@@ -78,12 +78,12 @@ const SAMPLES: [Sample; 13] = [
         groups: &[(2, 6), (10, 14), (4, 15)],
     },
     Sample {
-        title: "pace 0",
+        title: "below the least pace",
         pace: 0,
         groups: &[(0, 86_401)],
     },
     Sample {
-        title: "pace 3601",
+        title: "above the greatest pace",
         pace: 3601,
         groups: &[(0, 0)],
     },

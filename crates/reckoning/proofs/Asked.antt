@@ -1,30 +1,28 @@
 -- What the questions say of a call's answer.
 use mathlib.Core.Path.{_≡_, refl, sym, ap, subst, _∙_}
 use mathlib.Core.List.{List, [], _∷_, _++_}
-use mathlib.Core.Bool.{Bool, true, false, cond, _&&_}
+use mathlib.Core.Bool.{Bool, true, false, cond}
 use Prim.Native.Nat.{ℕ, _+_, _≤_, _<_}
 use native.Mathlib.Omega.{arith}
 use lib.Dec.{leb}
 use lib.ListN.{length, getD, take, drop, set}
-use lib.IntN.{ℤ, pos}
+use lib.IntN.{pos}
 use Rattle.std.specs.shelf.Lists.{All}
 use Rattle.std.specs.Options.{isSome}
 use Rattle.std.proofs.shelf.Signed.{ints}
 use Rattle.std.proofs.shelf.Lists.{take-more, drop-more, set-at, length-take-le, append-assoc, take-all}
-use Rattle.std.proofs.shelf.Tests.{and-parts, leb-true, le-leb, lt-leb}
-use Rattle.std.specs.declared.option.Option.{Option}
+use Rattle.std.proofs.shelf.Tests.{and-parts, leb-true, le-leb}
 use Rattle.std.specs.declared.option.Option.the-variants.{Some, None}
 use Rattle.std.specs.declared.result.Result.{Result}
 use Rattle.std.specs.declared.result.Result.the-variants.{Ok, Err}
 use Rattle.field.specs.declared.window.Window.{Window}
 use Rattle.field.specs.declared.refusal.Refusal.{Refusal}
-use Rattle.field.specs.declared.refusal.Refusal.the-variants.{ListTooShort, NoOrder}
+use Rattle.field.specs.declared.refusal.Refusal.the-variants.{NoOrder}
 use Rattle.field.specs.Refusals.{number-of, by-number, Question, question, first-no}
 use Rattle.theory.specs.declared.span.Span.{Span}
-use Rattle.theory.specs.Orders.{Possible}
 use Rattle.theory.specs.Method.{forbidden}
 use Rattle.theory.proofs.Deciding.{possible-some, some-possible}
-use Rattle.reckoning.specs.Questions.{every, timed, upright, questions, refused, asked}
+use Rattle.reckoning.specs.Questions.{every, questions, refused, asked}
 use Rattle.reckoning.specs.Lists.{decided, mapped, told, answer, leaves, Thirteen}
 use Rattle.reckoning.specs.Values.{Timed, Pace}
 use Rattle.reckoning.proofs.Every.{timed-all}
@@ -105,13 +103,6 @@ module _ {X : Type 0} (p : ℕ) (ws : List Window) (room : ℕ) (g : List Span �
   -- by a question of the field
   pub owed-refused : (r : Result ℕ Refusal) (q : Refusal) → r ≡ Err q → refused p ws ≡ Some (number-of q) → (before : List X) → Owed r before before
   owed-refused r q i e before = subst (λ z. Owed z before before) (sym i) (refusing q (no-stays (questions p ws) (question 12 (leb (length ws) room) ∷ []) (number-of q) e) before)
-
-  -- by the list
-  pub owed-short : refused p ws ≡ None → room < length ws → (before : List X) → Owed (Err ListTooShort) before before
-  owed-short e h before =
-      let more = question 12 (leb (length ws) room) ∷ [] in
-      let k : first-no more ≡ Some 12 = ap (λ b. first-no (question 12 b ∷ [])) (lt-leb (length ws) room h) in
-      refusing ListTooShort (no-later (questions p ws) more e ∙ k) before
 
   asked-none : refused p ws ≡ None → length ws ≤ room → asked p ws room ≡ None
   asked-none e h =

@@ -1,19 +1,16 @@
 -- A test that each window passes, and windows read one by one.
-use mathlib.Core.Path.{_≡_, refl, sym, ap, subst, _∙_}
+use mathlib.Core.Path.{_≡_, refl, sym, ap, _∙_}
 use mathlib.Core.List.{List, [], _∷_, _++_}
-use mathlib.Core.Bool.{Bool, true, false, cond, _&&_}
+use mathlib.Core.Bool.{Bool, true, false, _&&_}
 use Prim.Native.Nat.{ℕ, zero, suc, _+_, _≤_, _<_}
 use native.Mathlib.Omega.{arith}
-use lib.Dec.{leb}
-use lib.ListN.{length, getD, take, drop, set}
-use lib.IntN.{ℤ, pos, negsuc}
-use lib.Signed.{_≤ℤ_, leZ}
+use lib.ListN.{length, getD, take, set}
+use lib.IntN.{pos, negsuc}
+use lib.Signed.{leZ}
 use Rattle.std.specs.shelf.Lists.{All}
-use Rattle.std.proofs.shelf.Lists.{take-more, take-more-set, take-all, drop-more, set-at, length-take-le, append-assoc}
+use Rattle.std.proofs.shelf.Lists.{take-more, take-more-set, take-all}
 use Rattle.std.proofs.shelf.Elements.{all-weaker}
-use Rattle.std.proofs.shelf.Tests.{and-parts, and-from, and-left, and-right, leb-true}
-use Rattle.std.specs.declared.option.Option.{Option}
-use Rattle.std.specs.declared.option.Option.the-variants.{Some, None}
+use Rattle.std.proofs.shelf.Tests.{and-parts, and-from, and-left, and-right}
 use Rattle.field.specs.declared.window.Window.{Window}
 use Rattle.theory.proofs.Closed.{leZ-true}
 use Rattle.reckoning.specs.Questions.{every, timed}

@@ -1,31 +1,31 @@
 -- What is played is an order of play: every place once, with its start.
 use mathlib.Core.Path.{_≡_, refl, sym, ap, subst, _∙_}
 use mathlib.Core.List.{List, [], _∷_, _++_, map}
-use mathlib.Core.Bool.{Bool, true, false, cond, not}
-use mathlib.Core.Logic.{_⊎_, inl, inr, ⊎-elim}
+use mathlib.Core.Bool.{true, cond, not}
+use mathlib.Core.Logic.{inl, inr}
 use Prim.Native.Nat.{ℕ, zero, suc, _+_, _-_, _≤_, _<_}
 use native.Mathlib.Omega.{arith}
 use lib.Dec.{eqb}
-use lib.ListN.{length, getD, take, drop}
+use lib.ListN.{length, take, drop}
 use lib.IntN.{ℤ, pos, _+ℤ_}
 use lib.Signed.{_≤ℤ_}
 use Rattle.std.specs.Numbers.{maxZ}
 use Rattle.std.specs.shelf.Lists.{All, kept-by}
 use Rattle.std.proofs.shelf.Signed.{ints, clamps}
-use Rattle.std.proofs.shelf.Elements.{all-weaker, all-kept-by, kept-by-passes, all-map, all-append}
-use Rattle.std.proofs.shelf.Lists.{length-map, take-at, length-take-le}
-use Rattle.std.proofs.shelf.Tests.{cond-true, cond-false, cond-both, eq-eqb, ne-eqb, eqb-true, eqb-false, not-true, not-from-true, not-from-false}
-use Rattle.std.specs.declared.option.Option.the-variants.{Some, None}
+use Rattle.std.proofs.shelf.Elements.{all-weaker, all-kept-by, kept-by-passes, all-map}
+use Rattle.std.proofs.shelf.Lists.{length-map, take-at}
+use Rattle.std.proofs.shelf.Tests.{cond-true, cond-false, cond-both, eq-eqb, ne-eqb, eqb-false, not-true, not-from-true, not-from-false}
+use Rattle.std.specs.declared.option.Option.the-variants.{Some}
 use Rattle.field.specs.declared.window.Window.{Window}
 use Rattle.theory.specs.declared.span.Span.{Span}
 use Rattle.theory.specs.declared.group.Group.{Group}
 use Rattle.theory.specs.declared.group.Played.{Played}
-use Rattle.theory.specs.Orders.{OrderOfPlay, start-at, window-at}
+use Rattle.theory.specs.Orders.{start-at}
 use Rattle.theory.specs.Closed.{least-outside}
 use Rattle.theory.specs.Method.{forbidden}
 use Rattle.theory.specs.Written.{by-place, least-early, chosen, without, play, time-of, play-all, written}
 use Rattle.theory.proofs.Starts.{all-both}
-use Rattle.theory.proofs.Complete.{Among, all-among, next-among, start-by-place, complete}
+use Rattle.theory.proofs.Complete.{Among, all-among, chosen-among, start-by-place, complete}
 use Rattle.reckoning.specs.declared.start.Start.{Start}
 use Rattle.theory.proofs.Closed.{least-ge}
 use Rattle.reckoning.specs.Order.{played, start-of, Ascending, Once, Plays}
@@ -48,7 +48,7 @@ all-played P p f (suc n) t [] a = tt
 all-played P p f (suc n) t (g ∷ gs) a =
     let u = least-outside f (maxZ t (least-early g gs)) in
     let h = chosen u g gs in
-    (all-among (λ x. P (x .place)) h (g ∷ gs) a (next-among u g gs), all-played P p f n (u +ℤ p) (without (h .place) (g ∷ gs)) (all-without (λ x. P (x .place)) (h .place) (g ∷ gs) a))
+    (all-among (λ x. P (x .place)) h (g ∷ gs) a (chosen-among u g gs), all-played P p f n (u +ℤ p) (without (h .place) (g ∷ gs)) (all-without (λ x. P (x .place)) (h .place) (g ∷ gs) a))
 
 abbrev Distinct : List Played → Type 0
 Distinct [] = Unit {0}
@@ -161,7 +161,7 @@ play-long p f (suc n) t [] (suc k) d a b = absurd (omega arith)
 play-long p f (suc n) t (g ∷ gs) (suc k) d a b =
     let u = least-outside f (maxZ t (least-early g gs)) in
     let h = chosen u g gs in
-    let less = one-less h (g ∷ gs) d (next-among u g gs) in
+    let less = one-less h (g ∷ gs) d (chosen-among u g gs) in
     let ih = play-long p f n (u +ℤ p) (without (h .place) (g ∷ gs)) k (differ-kept (h .place) (g ∷ gs) d) (omega (arith, less)) (omega arith) in
     omega (arith, ih)
 
@@ -174,20 +174,20 @@ play-short p f (suc n) t (g ∷ gs) =
     let ih = play-short p f n (u +ℤ p) (without (chosen u g gs .place) (g ∷ gs)) in
     omega (arith, ih)
 
-numbered-from : (i : ℕ) (ws : List Window) → All (λ g. (i ≤ g .place) × (g .place < i + length ws)) (by-place i ws)
+by-place-from : (i : ℕ) (ws : List Window) → All (λ g. (i ≤ g .place) × (g .place < i + length ws)) (by-place i ws)
 unfolding by-place
-numbered-from i [] = tt
-numbered-from i (w ∷ ws) = (
+by-place-from i [] = tt
+by-place-from i (w ∷ ws) = (
   (omega arith, omega arith),
-  all-weaker (λ g. (suc i ≤ g .place) × (g .place < suc i + length ws)) (λ g. (i ≤ g .place) × (g .place < i + suc (length ws))) (λ g h. (omega (arith, h .0), omega (arith, h .1))) (by-place (suc i) ws) (numbered-from (suc i) ws),
+  all-weaker (λ g. (suc i ≤ g .place) × (g .place < suc i + length ws)) (λ g. (i ≤ g .place) × (g .place < i + suc (length ws))) (λ g h. (omega (arith, h .0), omega (arith, h .1))) (by-place (suc i) ws) (by-place-from (suc i) ws),
 )
 
-numbered-differ : (i : ℕ) (ws : List Window) → Differ (by-place i ws)
+by-place-differ : (i : ℕ) (ws : List Window) → Differ (by-place i ws)
 unfolding by-place
-numbered-differ i [] = tt
-numbered-differ i (w ∷ ws) = (
-  all-weaker (λ g. (suc i ≤ g .place) × (g .place < suc i + length ws)) (λ x. x .place ≡ i → ⊥) (λ g h e. omega (arith, h .0, e)) (by-place (suc i) ws) (numbered-from (suc i) ws),
-  numbered-differ (suc i) ws,
+by-place-differ i [] = tt
+by-place-differ i (w ∷ ws) = (
+  all-weaker (λ g. (suc i ≤ g .place) × (g .place < suc i + length ws)) (λ x. x .place ≡ i → ⊥) (λ g h e. omega (arith, h .0, e)) (by-place (suc i) ws) (by-place-from (suc i) ws),
+  by-place-differ (suc i) ws,
 )
 
 -- ---- of a field
@@ -203,7 +203,7 @@ started p f (g ∷ gs) n e d a =
     (omega (arith, long, short, e), distinct p f m t (g ∷ gs), all-played (λ i. i < n) p f m t (g ∷ gs) a)
 
 played-is : (p : ℤ) (f : List Span) (ws : List Window) → (length (played p f ws) ≡ length ws) × Distinct (played p f ws) × All (λ s. s .place < length ws) (played p f ws)
-played-is p f ws = go (by-place 0 ws) (length-by-place 0 ws) (numbered-differ 0 ws) (all-weaker (λ g. (0 ≤ g .place) × (g .place < 0 + length ws)) (λ g. g .place < length ws) (λ g h. omega (arith, h .1)) (by-place 0 ws) (numbered-from 0 ws))
+played-is p f ws = go (by-place 0 ws) (length-by-place 0 ws) (by-place-differ 0 ws) (all-weaker (λ g. (0 ≤ g .place) × (g .place < 0 + length ws)) (λ g. g .place < length ws) (λ g h. omega (arith, h .1)) (by-place 0 ws) (by-place-from 0 ws))
   where
     go : (gs : List Group) → length gs ≡ length ws → Differ gs → All (λ g. g .place < length ws) gs → (length (play-all p f gs) ≡ length ws) × Distinct (play-all p f gs) × All (λ s. s .place < length ws) (play-all p f gs)
     go gs e d a = started p f gs (length ws) e d a

@@ -3,20 +3,19 @@ use mathlib.Core.Path.{_≡_, refl, sym, ap, subst, _∙_}
 use mathlib.Core.List.{List, [], _∷_, _++_, reverse}
 use mathlib.Core.Bool.{Bool, true, false, cond}
 use mathlib.Core.Logic.{_⊎_, inl, inr, ⊎-elim}
-use Prim.Native.Nat.{ℕ, zero, suc, _+_, _-_, _≤_, _<_}
+use Prim.Native.Nat.{ℕ, _+_, _-_, _≤_, _<_}
 use native.Mathlib.Omega.{arith}
 use lib.ListN.{length, getD, take, drop}
-use lib.IntN.{ℤ, pos, negsuc, _+ℤ_, _-ℤ_}
-use lib.Signed.{_≤ℤ_, _<ℤ_, leZ, ltZ}
+use lib.IntN.{ℤ, pos, _+ℤ_, _-ℤ_}
+use lib.Signed.{_≤ℤ_, _<ℤ_}
 use Rattle.std.specs.shelf.Lists.{All}
-use Rattle.std.proofs.shelf.Signed.{ints, by-ltZ}
-use Rattle.std.proofs.shelf.Elements.{all-weaker}
+use Rattle.std.proofs.shelf.Signed.{ints}
 use Rattle.std.proofs.shelf.Lists.{take-more, reverse-append, take-append-drop}
 use Rattle.std.proofs.shelf.Tests.{cond-both}
 use Rattle.theory.specs.declared.span.Span.{Span}
 use Rattle.theory.specs.Closed.{covers, Off, Outside, greatest-outside, least-outside}
 use Rattle.theory.proofs.Closed.{covers-true, covers-false, greatest-le, greatest-out, greatest-most, least-ge, least-out, least-least}
-use Rattle.reckoning.specs.Values.{Falling, Fit}
+use Rattle.reckoning.specs.Values.{Falling}
 
 pub falling-right : (f g : List Span) → Falling (f ++ g) → Falling g
 falling-right [] g h = h
@@ -36,9 +35,9 @@ off-before s u [] a c o = tt
 off-before s u (x ∷ f) a c o = (⊎-elim (λ k. inl (omega (arith, ints))) (λ k. absurd (omega (arith, ints, a .0))) (o .0), off-before s u f (a .1) c (o .1))
 
 -- the newest span, looked at last: from just before it nothing older is in the way
-pub below-last : (s : Span) (f : List Span) (t : ℤ) → Falling (s ∷ f) → greatest-outside (s ∷ f) t ≡ cond (covers s (greatest-outside f t)) (s .first -ℤ pos 1) (greatest-outside f t)
+pub greatest-last : (s : Span) (f : List Span) (t : ℤ) → Falling (s ∷ f) → greatest-outside (s ∷ f) t ≡ cond (covers s (greatest-outside f t)) (s .first -ℤ pos 1) (greatest-outside f t)
 unfolding greatest-outside
-below-last s f t h = go (covers s u) refl
+greatest-last s f t h = go (covers s u) refl
   where
     u : ℤ
     u = greatest-outside f t
@@ -52,24 +51,24 @@ below-last s f t h = go (covers s u) refl
         omega (arith, ints)
     go false e = refl
 
-pub below-more : (xs : List Span) (i : ℕ) (d : Span) (t : ℤ) → i < length xs → Falling (reverse xs) → greatest-outside (reverse (take (i + 1) xs)) t ≡ cond (covers (getD xs i d) (greatest-outside (reverse (take i xs)) t)) (getD xs i d .first -ℤ pos 1) (greatest-outside (reverse (take i xs)) t)
-below-more xs i d t l h =
+pub greatest-more : (xs : List Span) (i : ℕ) (d : Span) (t : ℤ) → i < length xs → Falling (reverse xs) → greatest-outside (reverse (take (i + 1) xs)) t ≡ cond (covers (getD xs i d) (greatest-outside (reverse (take i xs)) t)) (getD xs i d .first -ℤ pos 1) (greatest-outside (reverse (take i xs)) t)
+greatest-more xs i d t l h =
     let e = reverse-more xs i d l in
-    ap (λ f. greatest-outside f t) e ∙ below-last (getD xs i d) (reverse (take i xs)) t (subst Falling e (falling-take xs (i + 1) h))
+    ap (λ f. greatest-outside f t) e ∙ greatest-last (getD xs i d) (reverse (take i xs)) t (subst Falling e (falling-take xs (i + 1) h))
 
 -- a jump up goes to the end of some span
-above-jump : (z t : ℤ) (f : List Span) → All (λ o. z <ℤ o .last) f → (least-outside f t ≡ t) ⊎ (z <ℤ least-outside f t)
+least-jump : (z t : ℤ) (f : List Span) → All (λ o. z <ℤ o .last) f → (least-outside f t ≡ t) ⊎ (z <ℤ least-outside f t)
 unfolding least-outside
-above-jump z t [] a = inl refl
-above-jump z t (s ∷ f) a =
+least-jump z t [] a = inl refl
+least-jump z t (s ∷ f) a =
     let u = least-outside f t in
     let v = least-outside f (s .last +ℤ pos 1) in
     let hv = least-ge f (s .last +ℤ pos 1) in
-    cond-both (covers s u) v u (λ x. (x ≡ t) ⊎ (z <ℤ x)) (λ e. inr (omega (arith, ints, a .0))) (λ e. above-jump z t f (a .1))
+    cond-both (covers s u) v u (λ x. (x ≡ t) ⊎ (z <ℤ x)) (λ e. inr (omega (arith, ints, a .0))) (λ e. least-jump z t f (a .1))
 
 -- the newest span, looked at first
-pub above-first : (s : Span) (f : List Span) (t : ℤ) → Falling (s ∷ f) → least-outside (s ∷ f) t ≡ least-outside f (cond (covers s t) (s .last +ℤ pos 1) t)
-above-first s f t h = go (covers s t) refl
+pub least-first : (s : Span) (f : List Span) (t : ℤ) → Falling (s ∷ f) → least-outside (s ∷ f) t ≡ least-outside f (cond (covers s t) (s .last +ℤ pos 1) t)
+least-first s f t h = go (covers s t) refl
   where
     go : (b : Bool) → covers s t ≡ b → least-outside (s ∷ f) t ≡ least-outside f (cond b (s .last +ℤ pos 1) t)
     go true e =
@@ -88,7 +87,7 @@ above-first s f t h = go (covers s t) refl
         let c = covers-false s t e in
         let x = least-outside f t in
         let g = least-ge f t in
-        let j = above-jump (s .last) t f (h .0) in
+        let j = least-jump (s .last) t f (h .0) in
         let off : Off x s = ⊎-elim (λ i. ⊎-elim (λ z. inl (omega (arith, ints))) (λ z. inr (omega (arith, ints))) c) (λ i. inr i) j in
         let a = least-least (s ∷ f) t x g (off, least-out f t) in
         let o = least-out (s ∷ f) t in
@@ -96,28 +95,28 @@ above-first s f t h = go (covers s t) refl
         let b = least-least f t (least-outside (s ∷ f) t) k (o .1) in
         omega (arith, ints)
 
-pub above-less : (xs : List Span) (i : ℕ) (d : Span) (t : ℤ) → i < length xs → Falling (reverse xs) → least-outside (reverse (take (i + 1) xs)) t ≡ least-outside (reverse (take i xs)) (cond (covers (getD xs i d) t) (getD xs i d .last +ℤ pos 1) t)
-above-less xs i d t l h =
+pub least-less : (xs : List Span) (i : ℕ) (d : Span) (t : ℤ) → i < length xs → Falling (reverse xs) → least-outside (reverse (take (i + 1) xs)) t ≡ least-outside (reverse (take i xs)) (cond (covers (getD xs i d) t) (getD xs i d .last +ℤ pos 1) t)
+least-less xs i d t l h =
     let e = reverse-more xs i d l in
-    ap (λ f. least-outside f t) e ∙ above-first (getD xs i d) (reverse (take i xs)) t (subst Falling e (falling-take xs (i + 1) h))
+    ap (λ f. least-outside f t) e ∙ least-first (getD xs i d) (reverse (take i xs)) t (subst Falling e (falling-take xs (i + 1) h))
 
-pub below-none : (t : ℤ) → greatest-outside [] t ≡ t
+pub greatest-none : (t : ℤ) → greatest-outside [] t ≡ t
 unfolding greatest-outside
-below-none t = refl
+greatest-none t = refl
 
-pub above-none : (t : ℤ) → least-outside [] t ≡ t
+pub least-none : (t : ℤ) → least-outside [] t ≡ t
 unfolding least-outside
-above-none t = refl
+least-none t = refl
 
-pub below-step : (xs : List Span) (i : ℕ) (d : Span) (t u r : ℤ) → i < length xs → Falling (reverse xs) → u ≡ greatest-outside (reverse (take i xs)) t → r ≡ cond (covers (getD xs i d) u) (getD xs i d .first -ℤ pos 1) u → r ≡ greatest-outside (reverse (take (i + 1) xs)) t
-below-step xs i d t u r l h e q = q ∙ ap (λ z. cond (covers (getD xs i d) z) (getD xs i d .first -ℤ pos 1) z) e ∙ sym (below-more xs i d t l h)
+pub greatest-step : (xs : List Span) (i : ℕ) (d : Span) (t u r : ℤ) → i < length xs → Falling (reverse xs) → u ≡ greatest-outside (reverse (take i xs)) t → r ≡ cond (covers (getD xs i d) u) (getD xs i d .first -ℤ pos 1) u → r ≡ greatest-outside (reverse (take (i + 1) xs)) t
+greatest-step xs i d t u r l h e q = q ∙ ap (λ z. cond (covers (getD xs i d) z) (getD xs i d .first -ℤ pos 1) z) e ∙ sym (greatest-more xs i d t l h)
 
-pub above-step : (xs : List Span) (i : ℕ) (d : Span) (w u r : ℤ) → 0 < i → i ≤ length xs → Falling (reverse xs) → least-outside (reverse (take i xs)) u ≡ w → r ≡ cond (covers (getD xs (i - 1) d) u) (getD xs (i - 1) d .last +ℤ pos 1) u → least-outside (reverse (take (i - 1) xs)) r ≡ w
-above-step xs i d w u r o l h e q =
+pub least-step : (xs : List Span) (i : ℕ) (d : Span) (w u r : ℤ) → 0 < i → i ≤ length xs → Falling (reverse xs) → least-outside (reverse (take i xs)) u ≡ w → r ≡ cond (covers (getD xs (i - 1) d) u) (getD xs (i - 1) d .last +ℤ pos 1) u → least-outside (reverse (take (i - 1) xs)) r ≡ w
+least-step xs i d w u r o l h e q =
     let z : (i - 1) + 1 ≡ i = omega arith in
-    ap (least-outside (reverse (take (i - 1) xs))) q ∙ sym (above-less xs (i - 1) d u (omega arith) h) ∙ ap (λ k. least-outside (reverse (take k xs)) u) z ∙ e
+    ap (least-outside (reverse (take (i - 1) xs))) q ∙ sym (least-less xs (i - 1) d u (omega arith) h) ∙ ap (λ k. least-outside (reverse (take k xs)) u) z ∙ e
 
-pub above-end : (xs : List Span) (i : ℕ) (w u : ℤ) → i ≤ 0 → least-outside (reverse (take i xs)) u ≡ w → u ≡ w
-above-end xs i w u h e =
+pub least-end : (xs : List Span) (i : ℕ) (w u : ℤ) → i ≤ 0 → least-outside (reverse (take i xs)) u ≡ w → u ≡ w
+least-end xs i w u h e =
     let z : i ≡ 0 = omega arith in
-    sym (above-none u) ∙ sym (ap (λ k. least-outside (reverse (take k xs)) u) z) ∙ e
+    sym (least-none u) ∙ sym (ap (λ k. least-outside (reverse (take k xs)) u) z) ∙ e

@@ -1,23 +1,23 @@
 -- The earlies that are left, and the greatest of them.
 use mathlib.Core.Path.{_≡_, refl, sym, ap, subst, _∙_}
-use mathlib.Core.List.{List, [], _∷_, _++_}
+use mathlib.Core.List.{List, [], _∷_}
 use mathlib.Core.Bool.{Bool, true, false, cond, _&&_}
 use mathlib.Core.Logic.{_⊎_, inl, inr, ⊎-elim}
-use Prim.Native.Nat.{ℕ, zero, suc, _+_, _-_, _≤_, _<_}
+use Prim.Native.Nat.{ℕ, suc, _+_, _-_, _≤_, _<_}
 use native.Mathlib.Omega.{arith}
-use lib.ListN.{length, getD, drop}
-use lib.IntN.{ℤ, pos, negsuc, _+ℤ_, _-ℤ_}
+use lib.ListN.{length, drop}
+use lib.IntN.{ℤ, pos, negsuc, _+ℤ_}
 use lib.Signed.{_≤ℤ_, _<ℤ_, leZ, ltZ}
 use Rattle.std.specs.shelf.Lists.{All, kept-by}
 use Rattle.std.proofs.shelf.Signed.{ints, by-ltZ}
-use Rattle.std.proofs.shelf.Elements.{all-weaker, kept-by-passes, all-kept-by}
+use Rattle.std.proofs.shelf.Elements.{all-weaker}
 use Rattle.std.proofs.shelf.Lists.{drop-more, drop-all}
 use Rattle.std.proofs.shelf.Tests.{cond-both, cond-true, cond-false}
 use Rattle.field.specs.declared.window.Window.{Window}
 use Rattle.field.specs.Windows.{outside}
 use Rattle.theory.specs.Orders.{counted, enclosed, window-at}
 use Rattle.theory.specs.Method.{put, earlies}
-use Rattle.theory.proofs.Closed.{leZ-true, leZ-false, ltZ-true, ltZ-false}
+use Rattle.theory.proofs.Closed.{ltZ-true, ltZ-false}
 use Rattle.theory.proofs.Settled.{Falling, falling-earlies, has-earlies}
 use Rattle.reckoning.specs.Values.{rest, head-or, Next}
 use Rattle.reckoning.proofs.Steps-back.{ltZ-yes, ltZ-no, leZ-yes, leZ-no, same-count}

@@ -2,7 +2,7 @@
 use mathlib.Core.Path.{_≡_, refl, sym, ap, subst, _∙_}
 use mathlib.Core.List.{List, [], _∷_, _++_, reverse}
 use mathlib.Core.Bool.{Bool, true, false, cond, _&&_}
-use mathlib.Core.Logic.{_⊎_, inl, inr, ⊎-elim}
+use mathlib.Core.Logic.{inl}
 use Prim.Native.Nat.{ℕ, zero, suc, _+_, _*_, _≤_, _<_}
 use native.Mathlib.Omega.{arith}
 use lib.Dec.{eqb}
@@ -15,16 +15,16 @@ use Rattle.std.proofs.shelf.Signed.{ints, clamps, by-ltZ}
 use Rattle.std.proofs.shelf.Elements.{all-weaker, all-getD, all-append}
 use Rattle.std.proofs.shelf.Lists.{take-more, drop-more, take-all, drop-all, length-append, take-append-drop, append-nil, reverse-append}
 use Rattle.std.proofs.shelf.Sums.{folded-push}
-use Rattle.std.proofs.shelf.Tests.{cond-both, cond-true, cond-false, and-right, and-left, and-from, ne-eqb}
+use Rattle.std.proofs.shelf.Tests.{cond-true, cond-false, and-right, and-left, and-from, ne-eqb}
 use Rattle.std.specs.declared.option.Option.{Option}
 use Rattle.std.specs.declared.option.Option.the-variants.{Some, None}
 use Rattle.field.specs.declared.window.Window.{Window}
 use Rattle.theory.specs.declared.span.Span.{Span}
 use Rattle.field.specs.Windows.{outside}
 use Rattle.theory.specs.Orders.{count, enclosed, counted, window-at}
-use Rattle.theory.specs.Closed.{covers, Off, Outside, greatest-outside, backward}
+use Rattle.theory.specs.Closed.{covers, Off, greatest-outside, backward}
 use Rattle.theory.specs.Method.{backwards, settle, join}
-use Rattle.theory.proofs.Closed.{leZ-true, leZ-false, ltZ-true, ltZ-false, covers-true, greatest-le, greatest-most}
+use Rattle.theory.proofs.Closed.{leZ-true, leZ-false, ltZ-false, covers-true, greatest-le, greatest-most}
 use Rattle.reckoning.specs.Values.{Fit, lows, Kept, Pace, Near, Timed}
 
 pub leZ-yes : (a b : ℤ) → a ≤ℤ b → leZ a b ≡ true
@@ -49,9 +49,9 @@ back-le p f l (suc n) h =
     let ih = back-le p f l n h in
     omega (arith, ints)
 
-pub below-stays : (s : Span) (f : List Span) (t : ℤ) → s .last <ℤ greatest-outside f t → greatest-outside (s ∷ f) t ≡ greatest-outside f t
+pub greatest-stays : (s : Span) (f : List Span) (t : ℤ) → s .last <ℤ greatest-outside f t → greatest-outside (s ∷ f) t ≡ greatest-outside f t
 unfolding greatest-outside
-below-stays s f t h = go (covers s (greatest-outside f t)) refl
+greatest-stays s f t h = go (covers s (greatest-outside f t)) refl
   where
     go : (b : Bool) → covers s (greatest-outside f t) ≡ b → cond b (greatest-outside f (s .first -ℤ pos 1)) (greatest-outside f t) ≡ greatest-outside f t
     go true e = let c = covers-true s (greatest-outside f t) e in absurd (omega (arith, ints))
@@ -64,7 +64,7 @@ back-stays p s f l zero h k = refl
 back-stays p s f l (suc n) h k =
     let d = greatest-le f (backward p f l n -ℤ p) in
     let ih = back-stays p s f l n h (omega (arith, ints)) in
-    ap (λ z. greatest-outside (s ∷ f) (z -ℤ p)) ih ∙ below-stays s f (backward p f l n -ℤ p) k
+    ap (λ z. greatest-outside (s ∷ f) (z -ℤ p)) ih ∙ greatest-stays s f (backward p f l n -ℤ p) k
 
 -- a value falls by at most 3600 a step, or to just before a span
 pub back-low : (p : ℤ) (f : List Span) (l : ℤ) (n : ℕ) → pos 1 ≤ℤ p → p ≤ℤ pos 3600 → All Fit f → negsuc 86399 ≤ℤ l → negℤ (pos (90000 + 3600 * n)) ≤ℤ backward p f l n
@@ -233,11 +233,11 @@ lows-all P (w ∷ ws) vs a j h k = go (lows-all P ws (drop 1 vs)) (leZ (getD vs 
     go ih true e a (suc j) h k = let q = drop-one vs j in subst P q (ih (a .1) j (omega arith) (subst (λ z. z ≤ℤ window-at ws j .late) (sym q) k))
     go ih false e a (suc j) h k = let q = drop-one vs j in subst P q (ih a j (omega arith) (subst (λ z. z ≤ℤ window-at ws j .late) (sym q) k))
 
-pub lows-backs : (p : ℤ) (ws : List Window) (f : List Span) (r : ℤ) (us : List Window) (vs : List ℤ) → pos 1 ≤ℤ p → ((j : ℕ) → j < length us → getD vs j (pos 0) ≡ backward p f (window-at us j .late) (counted ws r (window-at us j .late))) → lows us vs ≡ backwards p ws r f us
+pub lows-backwards : (p : ℤ) (ws : List Window) (f : List Span) (r : ℤ) (us : List Window) (vs : List ℤ) → pos 1 ≤ℤ p → ((j : ℕ) → j < length us → getD vs j (pos 0) ≡ backward p f (window-at us j .late) (counted ws r (window-at us j .late))) → lows us vs ≡ backwards p ws r f us
 unfolding lows backwards backward
-lows-backs p ws f r [] vs h k = refl
-lows-backs p ws f r (u ∷ us) vs h k =
-    go (counted ws r (u .late)) (k 0 (omega arith)) (lows-backs p ws f r us (drop 1 vs) h (λ j l. drop-one vs j ∙ k (suc j) (omega arith)))
+lows-backwards p ws f r [] vs h k = refl
+lows-backwards p ws f r (u ∷ us) vs h k =
+    go (counted ws r (u .late)) (k 0 (omega arith)) (lows-backwards p ws f r us (drop 1 vs) h (λ j l. drop-one vs j ∙ k (suc j) (omega arith)))
   where
     v : ℤ
     v = getD vs 0 (pos 0)
@@ -350,8 +350,8 @@ folded-cond : (c v : ℤ) (b : Bool) (xs : List ℤ) → folded minZ c (xs ++ co
 folded-cond c v true xs = folded-push minZ c xs v
 folded-cond c v false xs = ap (folded minZ c) (append-nil xs)
 
-pub least-step : (ws : List Window) (vs : List ℤ) (j : ℕ) (c m v r : ℤ) → j < length ws → v ≡ getD vs j (pos 0) → m ≡ folded minZ c (lows (take j ws) vs) → r ≡ cond (leZ v (window-at ws j .late)) (minZ m v) m → r ≡ folded minZ c (lows (take (j + 1) ws) vs)
-least-step ws vs j c m v r h e q d =
+pub lows-step : (ws : List Window) (vs : List ℤ) (j : ℕ) (c m v r : ℤ) → j < length ws → v ≡ getD vs j (pos 0) → m ≡ folded minZ c (lows (take j ws) vs) → r ≡ cond (leZ v (window-at ws j .late)) (minZ m v) m → r ≡ folded minZ c (lows (take (j + 1) ws) vs)
+lows-step ws vs j c m v r h e q d =
     d
     ∙ ap (λ z. cond (leZ z (window-at ws j .late)) (minZ m z) m) e
     ∙ ap (λ z. cond (leZ (getD vs j (pos 0)) (window-at ws j .late)) (minZ z (getD vs j (pos 0))) z) q

@@ -2,7 +2,6 @@
 use mathlib.Core.Path.{_≡_, refl, sym, ap, subst, _∙_}
 use mathlib.Core.List.{List, [], _∷_, _++_, reverse}
 use mathlib.Core.Bool.{Bool, true, false, cond}
-use mathlib.Core.Logic.{_⊎_, inl, inr, ⊎-elim}
 use Prim.Native.Nat.{ℕ, zero, suc, _+_, _≤_, _<_}
 use native.Mathlib.Omega.{arith}
 use lib.ListN.{length, getD, take}
@@ -13,20 +12,20 @@ use lib.IntN.{ℤ, pos, negsuc, _+ℤ_, _-ℤ_}
 use lib.Signed.{_≤ℤ_, _<ℤ_, leZ, ltZ}
 use Rattle.std.specs.Numbers.{minZ}
 use Rattle.std.specs.shelf.Lists.{All, folded}
-use Rattle.std.proofs.shelf.Signed.{ints, by-ltZ, folded-minZ-bounds}
-use Rattle.std.proofs.shelf.Elements.{all-weaker, all-getD}
-use Rattle.std.proofs.shelf.Tests.{cond-both, cond-true, cond-false, and-parts}
+use Rattle.std.proofs.shelf.Signed.{ints, folded-minZ-bounds}
+use Rattle.std.proofs.shelf.Elements.{all-weaker}
+use Rattle.std.proofs.shelf.Tests.{cond-true, cond-false, and-parts}
 use Rattle.std.specs.declared.option.Option.{Option}
 use Rattle.std.specs.declared.option.Option.the-variants.{Some, None}
 use Rattle.field.specs.declared.window.Window.{Window}
 use Rattle.theory.specs.declared.span.Span.{Span}
 use Rattle.theory.specs.Orders.{counted, enclosed, window-at}
 use Rattle.theory.specs.Closed.{backward}
-use Rattle.theory.specs.Method.{backwards, join, then, steps, earlies, forbidden}
+use Rattle.theory.specs.Method.{backwards, then, steps, earlies, forbidden}
 use Rattle.theory.proofs.Settled.{count-none}
-use Rattle.theory.proofs.Closed.{leZ-true, leZ-false, ltZ-true, ltZ-false}
+use Rattle.theory.proofs.Closed.{leZ-true}
 use Rattle.reckoning.specs.Values.{Falling, Fit, Timed, rest, Kept, lows, Next, Pace, Near}
-use Rattle.reckoning.proofs.Steps-back.{back-stays, lows-all, lows-backs, join-capped, closing, ltZ-yes, ltZ-no, back-le, all-reverse}
+use Rattle.reckoning.proofs.Steps-back.{back-stays, lows-all, lows-backwards, join-capped, closing, ltZ-yes, ltZ-no, back-le, all-reverse}
 use Rattle.reckoning.proofs.Rest.{all-left, left-length}
 
 -- where the reckoning stands once the earlies from b on are done: f is closed, and vs is kept
@@ -71,7 +70,7 @@ module _ (p : ℤ) (pace : Pace p) (ws : List Window) (timed : All Timed ws) whe
   unfolding steps Kept
   after-step b r m f vs us a n k e =
       let go : List Span → Option (List Span) = λ g. steps p ws (rest ws r) g in
-      let x = lows-backs p ws f r ws us (pace .0) k in
+      let x = lows-backwards p ws f r ws us (pace .0) k in
       let y = join-capped p r (backwards p ws r f ws) f (pace .0) in
       ap (λ z. then (closing p r z f) go) (e ∙ ap (folded minZ (r +ℤ p)) x)
       ∙ ap (λ z. then z go) (sym y)
@@ -164,8 +163,8 @@ next-real p ws b r f vs a n = subst (Next ws b) (sym (early-real p ws b r f vs a
 pub cap-real : (p : ℤ) (ws : List Window) (b r : ℤ) (f : List Span) (vs : List ℤ) → Pace p → Along p ws b f vs → Next ws b r → toZ w64 (ofZ w64 (r +ℤ p)) ≡ r +ℤ p
 cap-real p ws b r f vs h a n = near-real (r +ℤ p) (omega (arith, ints, n .over, h .0)) (omega (arith, ints, n .under, a .high, h .1))
 
-pub least-high : (p r m : ℤ) (xs : List ℤ) → m ≡ folded minZ (r +ℤ p) xs → m ≤ℤ (r +ℤ p)
-least-high p r m xs e = folded-minZ-bounds (r +ℤ p) xs m e .0
+pub capped-high : (p r m : ℤ) (xs : List ℤ) → m ≡ folded minZ (r +ℤ p) xs → m ≤ℤ (r +ℤ p)
+capped-high p r m xs e = folded-minZ-bounds (r +ℤ p) xs m e .0
 
 pub all-found : (xs : List Span) → All Fit (reverse xs) → All Fit xs
 all-found xs a = subst (All Fit) (reverse-reverse xs) (all-reverse Fit (reverse xs) a)

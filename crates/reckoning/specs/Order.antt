@@ -25,8 +25,8 @@ nobody = record { place = 0; win = outside }
 unfoldable pub least-of : List Group → ℤ
 least-of gs = least-early (getD gs 0 nobody) (drop 1 gs)
 
-unfoldable pub next-of : ℤ → List Group → Group
-next-of t gs = chosen t (getD gs 0 nobody) (drop 1 gs)
+unfoldable pub chosen-of : ℤ → List Group → Group
+chosen-of t gs = chosen t (getD gs 0 nobody) (drop 1 gs)
 
 -- the groups of a field as they are played
 abbrev pub played : ℤ → List Span → List Window → List Played

@@ -7,7 +7,6 @@ ghost use Rattle.std.specs.shelf.Lists.{All};
 ghost use Rattle.theory.specs.Closed.{covers, greatest-outside, least-outside};
 ghost use lib.IntN.{pos, _+ℤ_, _-ℤ_};
 ghost use mathlib.Core.Bool.{cond};
-ghost use lib.Signed.{_≤ℤ_};
 use theory::Span;
 
 fn is_closed(span: Span, time: i64) -> bool

@@ -3,7 +3,7 @@
 ghost use Prim.Native.Nat.{_+_, _<_, _≤_};
 ghost use Rattle.field.specs.Refusals.{by-number};
 ghost use Rattle.reckoning.specs.Lists.{answer, leaves, Thirteen};
-ghost use Rattle.reckoning.specs.Order.{least-of, next-of, played, start-of, order-told, Plays};
+ghost use Rattle.reckoning.specs.Order.{least-of, chosen-of, played, start-of, order-told, Plays};
 ghost use Rattle.reckoning.specs.Values.{Falling, Fit, Timed, Pace};
 ghost use Rattle.std.specs.Numbers.{minZ, maxZ};
 ghost use Rattle.std.specs.Results.{Cases};
@@ -74,7 +74,7 @@ fn first_at(time: i64, group: Group, other: Group) -> Group
 /// Of the groups released at a time, the one with the least late, and of equal lates the lowest place.
 fn next_at(time: i64, groups: &[Group]) -> Group
     requires { ⌜ 0 < length (now groups) ⌝ }
-    ensures { λ r. ⌜ r ≡ next-of time (now (groups .entry)) ⌝ }
+    ensures { λ r. ⌜ r ≡ chosen-of time (now (groups .entry)) ⌝ }
 {
     let mut best = groups[groups.len() - 1];
     for i in (0..groups.len() - 1).rev() {

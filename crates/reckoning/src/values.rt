@@ -2,7 +2,7 @@
 
 ghost use Prim.Native.Nat.{ℕ, _<_, _≤_};
 ghost use mathlib.Core.Bool.{cond, _&&_};
-ghost use mathlib.Core.List.{List, reverse};
+ghost use mathlib.Core.List.{reverse};
 ghost use mathlib.Core.Path.{_≡_};
 ghost use Rattle.reckoning.specs.Values.{Falling, Fit, Timed, Kept, lows, rest, head-or, Next, Near, Pace};
 ghost use Rattle.std.specs.Numbers.{minZ};
@@ -12,7 +12,7 @@ ghost use Rattle.theory.specs.Orders.{window-at};
 ghost use Rattle.theory.specs.Closed.{greatest-outside};
 ghost use lib.IntN.{pos, negsuc, _+ℤ_, _-ℤ_};
 ghost use lib.ListN.{length, getD};
-ghost use lib.Signed.{_≤ℤ_, leZ, ltZ};
+ghost use lib.Signed.{leZ, ltZ};
 ghost use mathlib.Core.List.{[]};
 use crate::closed::greatest_outside;
 use field::Window;

@@ -1,15 +1,14 @@
 -- The look-ups tell the greatest and the least time outside the spans; steps back and forth.
-use mathlib.Core.Path.{_≡_, refl, sym, ap, subst, _∙_}
+use mathlib.Core.Path.{_≡_, sym, ap, subst, _∙_}
 use mathlib.Core.List.{List, [], _∷_}
-use mathlib.Core.Bool.{Bool, true, false, cond, _&&_}
+use mathlib.Core.Bool.{true, false}
 use mathlib.Core.Logic.{_⊎_, inl, inr, ⊎-elim}
 use Prim.Native.Nat.{ℕ, zero, suc, _≤_, _<_}
 use native.Mathlib.Omega.{arith}
 use lib.IntN.{ℤ, pos, _+ℤ_, _-ℤ_}
 use lib.Signed.{_≤ℤ_, _<ℤ_, leZ, ltZ}
-use Rattle.std.specs.shelf.Lists.{All}
 use Rattle.std.proofs.shelf.Signed.{ints}
-use Rattle.std.proofs.shelf.Tests.{cond-both, and-parts, and-cases, cases-bool}
+use Rattle.std.proofs.shelf.Tests.{cond-both, and-parts, and-cases}
 use Rattle.theory.specs.declared.span.Span.{Span}
 use Rattle.theory.specs.Closed.{covers, Off, Outside, greatest-outside, least-outside, backward, forward}
 

@@ -1,34 +1,33 @@
 -- Where the method does not fail, the written order is an order of play.
 use mathlib.Core.Path.{_≡_, refl, sym, ap, subst, _∙_}
 use mathlib.Core.List.{List, [], _∷_, map}
-use mathlib.Core.Bool.{Bool, true, false, cond, not, _&&_, _||_}
+use mathlib.Core.Bool.{Bool, true, false, cond, not, _||_}
 use mathlib.Core.Logic.{_⊎_, inl, inr, ⊎-elim}
 use Prim.Native.Nat.{ℕ, zero, suc, _+_, _≤_, _<_}
 use native.Mathlib.Omega.{arith}
 use lib.Dec.{eqb}
-use lib.ListN.{length, getD}
-use lib.IntN.{ℤ, pos, _+ℤ_, _-ℤ_}
-use lib.Signed.{_≤ℤ_, _<ℤ_, leZ, ltZ}
+use lib.ListN.{length}
+use lib.IntN.{ℤ, pos, _+ℤ_}
+use lib.Signed.{_≤ℤ_, leZ, ltZ}
 use Rattle.std.specs.Numbers.{minZ, maxZ}
-use Rattle.std.specs.shelf.Lists.{All, kept-by}
+use Rattle.std.specs.shelf.Lists.{All}
 use Rattle.std.proofs.shelf.Signed.{ints, by-ltZ, clamps}
 use Rattle.std.proofs.shelf.Elements.{all-weaker, all-getD, all-kept-by, all-map}
 use Rattle.std.proofs.shelf.Lists.{length-map}
 use Rattle.std.proofs.shelf.Tests.{cond-both, cond-false, eqb-true, eqb-false, eq-eqb, and-parts, and-from, and-cases, or-cases, or-parts, not-from-true}
-use Rattle.std.specs.declared.option.Option.{Option}
-use Rattle.std.specs.declared.option.Option.the-variants.{Some, None}
+use Rattle.std.specs.declared.option.Option.the-variants.{Some}
 use Rattle.field.specs.declared.window.Window.{Window}
 use Rattle.field.specs.Windows.{outside}
 use Rattle.theory.specs.Orders.{window-at, start-at, In, Apart, OrderOfPlay, count, enclosed, counted}
 use Rattle.theory.specs.declared.span.Span.{Span}
-use Rattle.theory.specs.Closed.{Outside, least-outside}
+use Rattle.theory.specs.Closed.{least-outside}
 use Rattle.theory.specs.Method.{forbidden}
 use Rattle.theory.specs.declared.group.Group.{Group}
 use Rattle.theory.specs.declared.group.Played.{Played}
 use Rattle.theory.specs.Written.{by-place, least-early, goes-first, chosen, without, play, time-of, play-all, written}
 use Rattle.theory.proofs.Closed.{leZ-true, leZ-false, ltZ-true, ltZ-false, least-ge, least-out, Fits, fits-less}
 use Rattle.theory.proofs.Starts.{all-both}
-use Rattle.theory.proofs.Settled.{count-le, Room, room-at, room-after}
+use Rattle.theory.proofs.Settled.{count-le, room-at, room-after}
 
 abbrev pub wins : List Group → List Window
 wins gs = map (λ g. g .win) gs
@@ -47,22 +46,22 @@ all-among P h [] a m = absurd m
 all-among P h (x ∷ xs) a (inl e) = subst P e (a .0)
 all-among P h (x ∷ xs) a (inr m) = all-among P h xs (a .1) m
 
-pub next-among : (t : ℤ) (g : Group) (gs : List Group) → Among (chosen t g gs) (g ∷ gs)
+pub chosen-among : (t : ℤ) (g : Group) (gs : List Group) → Among (chosen t g gs) (g ∷ gs)
 unfolding chosen
-next-among t g [] = inl refl
-next-among t g (h ∷ hs) =
+chosen-among t g [] = inl refl
+chosen-among t g (h ∷ hs) =
     let b = chosen t h hs in
-    cond-both (goes-first t g b) g b (λ z. Among z (g ∷ h ∷ hs)) (λ e. inl refl) (λ e. inr (next-among t h hs))
+    cond-both (goes-first t g b) g b (λ z. Among z (g ∷ h ∷ hs)) (λ e. inl refl) (λ e. inr (chosen-among t h hs))
 
 abbrev Best : ℤ → Group → Group → Type 0
 Best t b x = x .win .early ≤ℤ t → (b .win .early ≤ℤ t) × (b .win .late ≤ℤ x .win .late)
 
-next-best : (t : ℤ) (g : Group) (gs : List Group) → All (Best t (chosen t g gs)) (g ∷ gs)
+chosen-best : (t : ℤ) (g : Group) (gs : List Group) → All (Best t (chosen t g gs)) (g ∷ gs)
 unfolding chosen
-next-best t g [] = ((λ h. (h, omega (arith, ints))), tt)
-next-best t g (h ∷ hs) =
+chosen-best t g [] = ((λ h. (h, omega (arith, ints))), tt)
+chosen-best t g (h ∷ hs) =
     let b = chosen t h hs in
-    let ih = next-best t h hs in
+    let ih = chosen-best t h hs in
     let here = leZ (g .win .early) t in
     let later = ltZ t (b .win .early) in
     let sooner = leZ (g .win .late) (b .win .late) in
@@ -253,7 +252,7 @@ placed p f (suc n) t [] h = tt
 placed p f (suc n) t (g ∷ gs) h =
     let u = least-outside f (maxZ t (least-early g gs)) in
     let b = chosen u g gs in
-    let less = without-lt (λ w. true) b (g ∷ gs) (next-among u g gs) refl in
+    let less = without-lt (λ w. true) b (g ∷ gs) (chosen-among u g gs) refl in
     from-without
     (λ x. Placed (x .place) (play p f n (u +ℤ p) (without (b .place) (g ∷ gs))))
     (b .place)
@@ -262,10 +261,10 @@ placed p f (suc n) t (g ∷ gs) h =
 
 -- ---- the groups of the field
 
-wins-numbered : (i : ℕ) (ws : List Window) → wins (by-place i ws) ≡ ws
+wins-by-place : (i : ℕ) (ws : List Window) → wins (by-place i ws) ≡ ws
 unfolding by-place
-wins-numbered i [] = refl
-wins-numbered i (w ∷ ws) = ap (λ us. w ∷ us) (wins-numbered (suc i) ws)
+wins-by-place i [] = refl
+wins-by-place i (w ∷ ws) = ap (λ us. w ∷ us) (wins-by-place (suc i) ws)
 
 length-by-place : (i : ℕ) (ws : List Window) → length (by-place i ws) ≡ length ws
 unfolding by-place
@@ -278,11 +277,11 @@ start-by-place T i [] k h = absurd (omega arith)
 start-by-place T i (w ∷ ws) zero h = ap T (omega arith)
 start-by-place T i (w ∷ ws) (suc k) h = start-by-place T (suc i) ws k (omega arith) ∙ ap T (omega arith)
 
-all-numbered : (P : ℕ → Type 0) (i : ℕ) (ws : List Window) → All (λ g. P (g .place)) (by-place i ws) → (k : ℕ) → k < length ws → P (i + k)
+all-by-place : (P : ℕ → Type 0) (i : ℕ) (ws : List Window) → All (λ g. P (g .place)) (by-place i ws) → (k : ℕ) → k < length ws → P (i + k)
 unfolding by-place
-all-numbered P i [] a k h = absurd (omega arith)
-all-numbered P i (w ∷ ws) a zero h = let e : i ≡ i + 0 = omega arith in subst P e (a .0)
-all-numbered P i (w ∷ ws) a (suc k) h = let e : suc i + k ≡ i + suc k = omega arith in subst P e (all-numbered P (suc i) ws (a .1) k (omega arith))
+all-by-place P i [] a k h = absurd (omega arith)
+all-by-place P i (w ∷ ws) a zero h = let e : i ≡ i + 0 = omega arith in subst P e (a .0)
+all-by-place P i (w ∷ ws) a (suc k) h = let e : suc i + k ≡ i + suc k = omega arith in subst P e (all-by-place P (suc i) ws (a .1) k (omega arith))
 
 pub count-all : (gs : List Group) → count (λ w. true) (wins gs) ≡ length gs
 count-all [] = refl
@@ -292,13 +291,13 @@ count-all (g ∷ gs) = ap suc (count-all gs)
 abbrev Of : List Window → Group → Type 0
 Of ws g = (g .place < length ws) × (window-at ws (g .place) ≡ g .win)
 
-of-numbered : (ws : List Window) (i : ℕ) (us : List Window) → i + length us ≡ length ws → ((k : ℕ) → k < length us → window-at ws (i + k) ≡ window-at us k) → All (Of ws) (by-place i us)
+of-by-place : (ws : List Window) (i : ℕ) (us : List Window) → i + length us ≡ length ws → ((k : ℕ) → k < length us → window-at ws (i + k) ≡ window-at us k) → All (Of ws) (by-place i us)
 unfolding by-place
-of-numbered ws i [] e h = tt
-of-numbered ws i (u ∷ us) e h =
+of-by-place ws i [] e h = tt
+of-by-place ws i (u ∷ us) e h =
     let z : i + 0 ≡ i = omega arith in (
       (omega (arith, e), subst (λ k. window-at ws k ≡ u) z (h 0 (omega arith))),
-      of-numbered ws (suc i) us (omega (arith, e)) (λ k l. let y : i + suc k ≡ suc i + k = omega arith in subst (λ m. window-at ws m ≡ window-at us k) y (h (suc k) (omega arith))),
+      of-by-place ws (suc i) us (omega (arith, e)) (λ k l. let y : i + suc k ≡ suc i + k = omega arith in subst (λ m. window-at ws m ≡ window-at us k) y (h (suc k) (omega arith))),
     )
 
 -- ---- the run
@@ -434,8 +433,8 @@ module _ (p : ℤ) (pace : pos 1 ≤ℤ p) (ws : List Window) (f : List Span) (o
       let top : e ≤ℤ u = omega (arith, ints, clamps) in
       let from : t ≤ℤ u = omega (arith, ints, clamps) in
       let i′ = inv-max t g gs s i in
-      let m = next-among u g gs in
-      let best = next-best u g gs in
+      let m = chosen-among u g gs in
+      let best = chosen-best u g gs in
       let o = all-among (Of ws) h (g ∷ gs) (s .0) m in
       let out = released (h .win .early ≤ℤ u) u g gs top (all-weaker (Best u h) (λ x. x .win .early ≤ℤ u → h .win .early ≤ℤ u) (λ x b q. b q .0) (g ∷ gs) best) in
       let late = in-time v h (g ∷ gs) i′ o m in
@@ -486,10 +485,10 @@ module _ (p : ℤ) (pace : pos 1 ≤ℤ p) (ws : List Window) (f : List Span) (o
       let z : 0 + length ws ≡ length ws = omega arith in
       let zero-plus : (k : ℕ) → 0 + k ≡ k = λ k. omega arith in
       let s : Sub gs =
-      (of-numbered ws 0 ws z (λ k h. ap (window-at ws) (zero-plus k)), (λ c. let e = ap (count c) (wins-numbered 0 ws) in omega (arith, e))) in
+      (of-by-place ws 0 ws z (λ k h. ap (window-at ws) (zero-plus k)), (λ c. let e = ap (count c) (wins-by-place 0 ws) in omega (arith, e))) in
       let q = whole gs s in
       let at : (k : ℕ) → k < length ws → start-at (map (λ g. time-of (g .place) ss) gs) k ≡ time-of k ss = λ k h. start-by-place (λ i. time-of i ss) 0 ws k h ∙ ap (λ i. time-of i ss) (zero-plus k) in
-      let there : (k : ℕ) → k < length ws → Placed k ss = λ k h. subst (λ i. Placed i ss) (zero-plus k) (all-numbered (λ i. Placed i ss) 0 ws (q .2) k h) in
+      let there : (k : ℕ) → k < length ws → Placed k ss = λ k h. subst (λ i. Placed i ss) (zero-plus k) (all-by-place (λ i. Placed i ss) 0 ws (q .2) k h) in
       record {
         same = length-map gs (λ g. time-of (g .place) ss) ∙ length-by-place 0 ws;
         within = λ i h. subst (In (window-at ws i)) (sym (at i h)) (time-all (λ i x. In (window-at ws i) x) i ss (q .0) (there i h));

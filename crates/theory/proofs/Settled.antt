@@ -1,7 +1,7 @@
 -- What the method leaves behind where it does not fail: room for the windows from each time on.
-use mathlib.Core.Path.{_≡_, refl, sym, ap, subst, _∙_}
+use mathlib.Core.Path.{_≡_, refl, subst}
 use mathlib.Core.List.{List, [], _∷_}
-use mathlib.Core.Bool.{Bool, true, false, cond, _&&_}
+use mathlib.Core.Bool.{Bool, true, false, cond}
 use mathlib.Core.Logic.{_⊎_, inl, inr, ⊎-elim}
 use Prim.Native.Nat.{ℕ, zero, suc, _≤_, _<_}
 use native.Mathlib.Omega.{arith}
@@ -18,7 +18,7 @@ use Rattle.std.specs.declared.option.Option.the-variants.{Some, None}
 use Rattle.field.specs.declared.window.Window.{Window}
 use Rattle.theory.specs.Orders.{count, enclosed, counted}
 use Rattle.theory.specs.declared.span.Span.{Span}
-use Rattle.theory.specs.Closed.{Off, Outside, backward}
+use Rattle.theory.specs.Closed.{Outside, backward}
 use Rattle.theory.specs.Method.{put, earlies, backwards, settle, join, then, steps, forbidden}
 use Rattle.theory.proofs.Closed.{leZ-true, ltZ-true, ltZ-false, Fits, fits-back, fits-down, fits-less, fits-more}
 
@@ -159,10 +159,10 @@ module _ (p : ℤ) (pace : pos 1 ≤ℤ p) (ws : List Window) where
   fit-at f l m a zero h k = tt
   fit-at f l m a (suc n) h k = let j = h (omega arith) in fits-back p pace f l (suc n) a (omega (arith, ints))
 
-  room-backs : (r m : ℤ) (f : List Span) (us : List Window) → All (λ b. m ≤ℤ b) (backwards p ws r f us) → (a : ℤ) → a ≤ℤ m → All (λ u. Fits p f a (counted ws r (u .late)) (u .late)) us
+  room-backwards : (r m : ℤ) (f : List Span) (us : List Window) → All (λ b. m ≤ℤ b) (backwards p ws r f us) → (a : ℤ) → a ≤ℤ m → All (λ u. Fits p f a (counted ws r (u .late)) (u .late)) us
   unfolding backwards
-  room-backs r m f [] h a k = tt
-  room-backs r m f (u ∷ us) h a k = go (λ g. room-backs r m f us g a k) (eqb (counted ws r (u .late)) 0) refl h
+  room-backwards r m f [] h a k = tt
+  room-backwards r m f (u ∷ us) h a k = go (λ g. room-backwards r m f us g a k) (eqb (counted ws r (u .late)) 0) refl h
     where
       more : List ℤ
       more = backwards p ws r f us
@@ -247,7 +247,7 @@ module _ (p : ℤ) (pace : pos 1 ≤ℤ p) (ws : List Window) where
       (h .0)
       (join p r (backwards p ws r f ws) f)
       (λ g. steps p ws rs g)
-      (next-join r f (backwards p ws r f ws) (λ m b a k. room-backs r m f ws b a k))
+      (next-join r f (backwards p ws r f ws) (λ m b a k. room-backwards r m f ws b a k))
       (λ g. done-steps rs g (h .1))
 
   pub settled : (f : List Span) → forbidden p ws ≡ Some f → All (λ u. Settled f (u .early)) ws

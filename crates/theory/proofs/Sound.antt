@@ -1,16 +1,15 @@
 -- If the method fails there is no order of play, and no order of play starts anything in its spans.
-use mathlib.Core.Path.{_≡_, refl, sym, ap, subst, _∙_}
+use mathlib.Core.Path.{_≡_, refl, sym, subst}
 use mathlib.Core.List.{List, [], _∷_}
-use mathlib.Core.Bool.{Bool, true, false, cond, _&&_}
+use mathlib.Core.Bool.{cond}
 use mathlib.Core.Logic.{_⊎_, inl, inr, ⊎-elim}
-use Prim.Native.Nat.{ℕ, zero, suc, _≤_, _<_}
+use Prim.Native.Nat.{_≤_, _<_}
 use native.Mathlib.Omega.{arith}
 use lib.Dec.{eqb}
-use lib.ListN.{length, getD}
 use lib.IntN.{ℤ, pos, _+ℤ_, _-ℤ_}
-use lib.Signed.{_≤ℤ_, _<ℤ_, leZ, ltZ}
+use lib.Signed.{_≤ℤ_, _<ℤ_, ltZ}
 use Rattle.std.specs.Numbers.{minZ}
-use Rattle.std.specs.shelf.Lists.{All, Has, folded}
+use Rattle.std.specs.shelf.Lists.{All, folded}
 use Rattle.std.proofs.shelf.Signed.{ints, folded-minZ-reached, by-ltZ}
 use Rattle.std.proofs.shelf.Elements.{all-weaker, all-has}
 use Rattle.std.proofs.shelf.Tests.{cond-both, eqb-false}
@@ -21,20 +20,20 @@ use Rattle.theory.specs.Orders.{Apart, OrderOfPlay, enclosed, counted}
 use Rattle.theory.specs.declared.span.Span.{Span}
 use Rattle.theory.specs.Closed.{Off, Outside, backward}
 use Rattle.theory.specs.Method.{backwards, settle, join, then, steps, forbidden, earlies}
-use Rattle.theory.proofs.Closed.{ltZ-true, ltZ-false}
+use Rattle.theory.proofs.Closed.{ltZ-true}
 use Rattle.theory.proofs.Starts.{Ordered, from-order, taken, all-taken, taken-bounds, Rows, rows, order-back, all-both}
 
 -- a step back that the method looks at
 abbrev pub Back : ℤ → List Window → ℤ → List Span → ℤ → Type 0
 Back p ws r f b = (l : ℤ) × (0 < counted ws r l) × (b ≡ backward p f l (counted ws r l))
 
-pub backs-are : (p : ℤ) (ws : List Window) (r : ℤ) (f : List Span) (us : List Window) → All (Back p ws r f) (backwards p ws r f us)
+pub backwards-are : (p : ℤ) (ws : List Window) (r : ℤ) (f : List Span) (us : List Window) → All (Back p ws r f) (backwards p ws r f us)
 unfolding backwards
-backs-are p ws r f [] = tt
-backs-are p ws r f (u ∷ us) =
+backwards-are p ws r f [] = tt
+backwards-are p ws r f (u ∷ us) =
     let n = counted ws r (u .late) in
     let b = backward p f (u .late) n in
-    let ih = backs-are p ws r f us in
+    let ih = backwards-are p ws r f us in
     cond-both (eqb n 0) (backwards p ws r f us) (b ∷ backwards p ws r f us) (All (Back p ws r f)) (λ e. ih) (λ e. ((u .late, omega (arith, eqb-false n 0 e), refl), ih))
 
 -- what the method says, of starts: there are none, or they are outside its spans
@@ -125,7 +124,7 @@ module _ (p : ℤ) (pace : pos 1 ≤ℤ p) (ws : List Window) (xs : List ℤ) (o
   unfolding steps
   good-steps [] f out = out
   good-steps (r ∷ rs) f out =
-      good-then (join p r (backwards p ws r f ws) f) (λ g. steps p ws rs g) (good-join r f (backwards p ws r f ws) out (backs-are p ws r f ws)) (λ g k. good-steps rs g k)
+      good-then (join p r (backwards p ws r f ws) f) (λ g. steps p ws rs g) (good-join r f (backwards p ws r f ws) out (backwards-are p ws r f ws)) (λ g k. good-steps rs g k)
 
 none-outside : (xs : List ℤ) → All (Outside []) xs
 none-outside [] = tt

@@ -1,21 +1,21 @@
 -- Starts that are p apart: put in order, they go back at least p at a time.
-use mathlib.Core.Path.{_≡_, refl, sym, ap, subst, _∙_}
+use mathlib.Core.Path.{_≡_, refl, ap, subst, _∙_}
 use mathlib.Core.List.{List, [], _∷_}
-use mathlib.Core.Bool.{Bool, true, false, cond, _&&_}
+use mathlib.Core.Bool.{Bool, true, false, cond}
 use mathlib.Core.Logic.{_⊎_, inl, inr, ⊎-elim}
-use Prim.Native.Nat.{ℕ, zero, suc, _≤_, _<_}
+use Prim.Native.Nat.{suc, _≤_, _<_}
 use native.Mathlib.Omega.{arith}
-use lib.ListN.{length, getD}
+use lib.ListN.{length}
 use lib.IntN.{ℤ, pos, _+ℤ_, _-ℤ_}
-use lib.Signed.{_≤ℤ_, _<ℤ_, leZ, ltZ}
+use lib.Signed.{_≤ℤ_, leZ, ltZ}
 use Rattle.std.specs.shelf.Lists.{All}
 use Rattle.std.proofs.shelf.Signed.{ints}
-use Rattle.std.proofs.shelf.Elements.{all-weaker, all-from-getD, all-getD}
+use Rattle.std.proofs.shelf.Elements.{all-weaker, all-from-getD}
 use Rattle.std.proofs.shelf.Tests.{cond-both, and-parts}
 use Rattle.field.specs.declared.window.Window.{Window}
 use Rattle.theory.specs.Orders.{In, Apart, OrderOfPlay, count, enclosed, counted}
 use Rattle.theory.specs.declared.span.Span.{Span}
-use Rattle.theory.specs.Closed.{Outside, backward, greatest-outside}
+use Rattle.theory.specs.Closed.{Outside, backward}
 use Rattle.theory.proofs.Closed.{leZ-true, ltZ-true, ltZ-false, greatest-most}
 
 pub all-both : {X : Type 0} (P Q R : X → Type 0) → ((x : X) → P x → Q x → R x) → (xs : List X) → All P xs → All Q xs → All R xs

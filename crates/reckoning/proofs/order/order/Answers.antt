@@ -7,7 +7,7 @@ use lib.ListN.{length, drop, take}
 use Prim.Native.Nat.{_≤_, _-_}
 use mir.Syntax.{w64}
 use mir.Val.{toZ, ofZ}
-use Rattle.std.proofs.shelf.Signed.{ints, toZ-ofZ}
+use Rattle.std.proofs.shelf.Signed.{ints}
 use Rattle.std.proofs.shelf.Lists.{length-map}
 use Rattle.std.specs.shelf.Lists.{All}
 use Rattle.std.specs.Results.{Cases}

@@ -1,8 +1,7 @@
 use borrow.Author.Needs.{needs}
-use mathlib.Core.Path.{_≡_, sym, _∙_, ap, subst}
+use mathlib.Core.Path.{_≡_, _∙_, ap}
 use mathlib.Core.List.{reverse}
 use native.Mathlib.Omega.{arith}
-use lib.IntN.{_+ℤ_}
 use lib.ListN.{length, take}
 use mir.Syntax.{w64}
 use mir.Val.{toZ, ofZ}
@@ -14,8 +13,7 @@ use Rattle.reckoning.specs.Values.{Pace, Fit, Near}
 use Rattle.reckoning.specs.Order.{least-of, played}
 use Rattle.reckoning.proofs.Steps-back.{all-reverse}
 use Rattle.reckoning.proofs.Plain.{real}
-use Rattle.reckoning.proofs.Turn.{near-real}
-use Rattle.reckoning.proofs.Playing.{Midway, midway-begin, midway-turn, midway-near, midway-end, start-read, next-read, less-left}
+use Rattle.reckoning.proofs.Playing.{midway-begin, midway-turn, midway-near, midway-end, start-read, chosen-read, less-left}
 use Rattle.reckoning.proofs.order.play.Needs as need
 
 pub loop-left-holds : need.loop-left-holds
@@ -42,7 +40,7 @@ add-time c = let n = start-near c in search (needs, ints)
 pub loop-left-less : need.loop-left-less
 loop-left-less c =
     less-left _ (take (c .loop-left .left) (c .loop-left .groups)) _ _ (c .loop-left .left) (c .remove-left .result)
-    (c .loop-left .inv .0 .size) (c .loop-left-test .taken) (next-read (c .loop-left .groups) (c .loop-left .left) _ _ (c .next-at-place .ensures)) (c .remove-left .ensures .rest) (less-is c)
+    (c .loop-left .inv .0 .size) (c .loop-left-test .taken) (chosen-read (c .loop-left .groups) (c .loop-left .left) _ _ (c .next-at-place .ensures)) (c .remove-left .ensures .rest) (less-is c)
 
 pub loop-left-again : need.loop-left-again
 loop-left-again c =
@@ -52,7 +50,7 @@ loop-left-again c =
     let n = start-near c in (
       midway-turn P (reverse (c .args .found .now)) (c .args .windows .now) (c .loop-left .out) (c .loop-left .done) _ (take (c .loop-left .left) (c .loop-left .groups)) (c .loop-left .left) U _ (c .next-at-place .result) _ (c .remove-left .result)
           pace (all-reverse Fit (c .args .found .now) (c .pre .fit)) (c .pre .timed) (c .loop-left-test .taken) (let f = c .loop-left .inv .0 .fuel in search needs) (c .loop-left .inv .0) (start-is c)
-          (next-read (c .loop-left .groups) (c .loop-left .left) U _ (c .next-at-place .ensures)) (c .remove-left .ensures .rest) (less-is c) (omega (arith, ints, n .0, n .1, pace .0, pace .1)),
+          (chosen-read (c .loop-left .groups) (c .loop-left .left) U _ (c .next-at-place .ensures)) (c .remove-left .ensures .rest) (less-is c) (omega (arith, ints, n .0, n .1, pace .0, pace .1)),
       search needs,
     )
 

@@ -1,9 +1,9 @@
 use borrow.Author.Needs.{needs}
 use mathlib.Core.Path.{sym, _∙_, ap}
-use mathlib.Core.List.{map, _++_}
+use mathlib.Core.List.{map}
 use native.Mathlib.Omega.{arith}
-use lib.ListN.{length, drop, set}
-use Rattle.std.proofs.shelf.Lists.{take-all, length-map, getD-map}
+use lib.ListN.{length, set}
+use Rattle.std.proofs.shelf.Lists.{length-map, getD-map}
 use Rattle.reckoning.specs.Order.{start-of}
 use Rattle.reckoning.proofs.Playing.{unplayed}
 use Rattle.reckoning.proofs.Asked.{filled-more, filled-all}

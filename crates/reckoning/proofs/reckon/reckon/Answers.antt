@@ -1,7 +1,6 @@
 use borrow.Author.Needs.{needs}
 use mathlib.Core.Path.{_≡_, sym, ap, subst, _∙_}
 use mathlib.Core.List.{reverse}
-use native.Mathlib.Omega.{arith}
 use lib.IntN.{pos, _+ℤ_}
 use Rattle.std.specs.Numbers.{minZ}
 use Rattle.std.specs.shelf.Lists.{All, folded}
@@ -14,7 +13,7 @@ use mir.Val.{toZ, ofZ}
 use Rattle.std.proofs.shelf.Signed.{ints, toZ-ofZ}
 use Rattle.reckoning.specs.Values.{Pace, Falling, Fit, Kept, lows}
 use Rattle.reckoning.specs.Told.{spans-of}
-use Rattle.reckoning.proofs.Turn.{Along, setting-out, coming, failing, done, next-real, cap-real, least-high, all-found, still-room, turned-on, near-all, found-few}
+use Rattle.reckoning.proofs.Turn.{Along, setting-out, coming, failing, done, next-real, cap-real, capped-high, all-found, still-room, turned-on, near-all, found-few}
 use Rattle.reckoning.proofs.reckon.reckon.Needs as need
 
 pub loop-early-holds : need.loop-early-holds
@@ -82,7 +81,7 @@ joining-requires c κs =
     let n = next-real P ws _ (c .in-Some .early) (reverse xs) vs al (c .in-Some .ensures tt) in
     let e = real (c .least-m .result) (c .least-m .ok) ∙ c .least-m .ensures ∙ ap (λ z. folded minZ z (lows ws us)) (cap-real P ws _ E (reverse xs) vs pace al n) in
     let h = ltZ-false M E (c .if-m-early .left) in
-    record { near = near-all P _ E M pace (n .over) (n .under) (al .high) (least-high P E M (lows ws us) e) h }
+    record { near = near-all P _ E M pace (n .over) (n .under) (al .high) (capped-high P E M (lows ws us) e) h }
 
 pub join-requires : need.join-requires
 join-requires c κs =

@@ -1,16 +1,12 @@
 use borrow.Author.Needs.{needs}
 use mathlib.Core.Path.{_∙_, ap, sym, subst}
 use mathlib.Core.List.{reverse}
-use native.Mathlib.Omega.{arith}
-use lib.IntN.{pos}
-use lib.ListN.{getD}
 use mir.Syntax.{w64}
 use mir.Val.{toZ, ofZ}
 use Prim.Native.Nat.{_+_}
 use Rattle.theory.specs.Orders.{window-at}
 use Rattle.std.proofs.shelf.Signed.{ints, toZ-ofZ}
 use Rattle.reckoning.specs.Values.{Fit}
-use Rattle.reckoning.proofs.Plain.{real}
 use Rattle.reckoning.proofs.Steps-back.{Partly, partly-none, partly-all, partly-other, partly-here, partly-near, partly-same, all-reverse}
 use Rattle.reckoning.proofs.values.come_in.Needs as need
 use Rattle.reckoning.proofs.values.come_in.Needs.{then-windows-g, else-windows-g}

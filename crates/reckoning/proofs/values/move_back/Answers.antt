@@ -10,7 +10,7 @@ use Rattle.theory.specs.Orders.{window-at}
 use Rattle.theory.specs.Closed.{greatest-outside}
 use native.Mathlib.Omega.{arith}
 use lib.IntN.{pos, _-ℤ_}
-use Rattle.std.proofs.shelf.Signed.{ints, toZ-ofZ}
+use Rattle.std.proofs.shelf.Signed.{toZ-ofZ}
 use Rattle.reckoning.proofs.Plain.{real, written-more, kept-more}
 use Rattle.reckoning.proofs.values.move_back.Needs as need
 

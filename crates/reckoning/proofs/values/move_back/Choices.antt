@@ -2,7 +2,7 @@ use Prim.Native.Nat.{ℕ, _<_, _≤_}
 use mathlib.Core.Path.{_≡_}
 use mathlib.Core.Bool.{cond}
 use mathlib.Core.List.{reverse}
-use lib.ListN.{getD, length}
+use lib.ListN.{getD}
 use lib.IntN.{pos, _-ℤ_}
 use lib.Signed.{leZ}
 use Rattle.theory.specs.Orders.{window-at}

@@ -1,4 +1,3 @@
-use borrow.Author.Needs.{needs}
 use mathlib.Core.Path.{sym, subst, ap, _∙_}
 use mir.Syntax.{w64}
 use mir.Val.{toZ, ofZ}

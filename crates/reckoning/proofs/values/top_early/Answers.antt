@@ -1,11 +1,9 @@
 use borrow.Author.Needs.{needs}
-use mathlib.Core.Path.{_∙_, ap, sym}
+use mathlib.Core.Path.{_∙_}
 use native.Mathlib.Omega.{arith}
 use Prim.Native.Nat.{_-_}
-use lib.IntN.{pos, negsuc}
-use lib.ListN.{getD}
-use mir.Syntax.{w64}
-use Rattle.std.proofs.shelf.Signed.{ints, toZ-ofZ}
+use lib.IntN.{negsuc}
+use Rattle.std.proofs.shelf.Signed.{ints}
 use Rattle.std.proofs.shelf.Elements.{all-getD}
 use Rattle.field.specs.Windows.{outside}
 use Rattle.reckoning.specs.Values.{Timed}

@@ -1,6 +1,4 @@
-use mathlib.Core.Path.{refl, sym, ap, _∙_}
-use native.Mathlib.Omega.{arith}
-use Rattle.std.proofs.shelf.Counted.{length-map-counting}
+use mathlib.Core.Path.{refl, sym, _∙_}
 use Rattle.field.proofs.Records.{number-read, number-past, within-records}
 use Rattle.field.proofs.strip.StripNumbered.number.Needs as need
 
