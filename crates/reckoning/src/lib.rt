@@ -6,6 +6,7 @@
 mod closed;
 mod found;
 pub mod order;
+pub mod possible;
 mod reckon;
 pub mod spans;
 pub mod start;
