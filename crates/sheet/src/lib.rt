@@ -1,0 +1,11 @@
+//! A start sheet: the groups that are to start at one tee, and the calls that change it.
+
+pub mod row;
+pub mod rows;
+mod table;
+
+pub use row::Row;
+pub use row::Standing;
+pub use rows::Rows;
+pub use rows::RowsField;
+pub use rows::RowsNumbered;

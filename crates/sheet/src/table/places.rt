@@ -1,0 +1,61 @@
+ghost use Prim.Native.Nat.{_<_, _≤_};
+ghost use Rattle.sheet.specs.Standings.{nobody};
+ghost use Rattle.sheet.specs.contracts.row.Row.{the-row as row-of};
+ghost use Rattle.sheet.specs.contracts.table.Table.{the-row as table-of};
+ghost use Rattle.std.specs.Changed.{with-item};
+ghost use Rattle.std.specs.Holes.{inserted, removed};
+ghost use Rattle.std.specs.Of.Vec.{vec-items, vec-len};
+ghost use Rattle.std.specs.Vec.{made};
+ghost use denote.Follow.{follows};
+ghost use denote.Ref.{name};
+ghost use ghost.Atoms.{sem};
+ghost use lib.ListN.{getD};
+ghost use mathlib.Core.List.{[]};
+ghost use mathlib.Core.Path.{_≡_};
+use crate::row::Row;
+use crate::table::Table;
+use std::alloc::AllocError;
+use std::alloc::Global;
+
+impl Table {
+    /// No rows, and memory for 64.
+    pub fn empty(heap: Global) -> Result<Table, AllocError>
+        ensures { λ r. ⌜ made r (λ t. vec-items (t .rows) ≡ []) ⌝ }
+    {
+        let rows = Vec::with_capacity(heap, 64)?;
+        Ok(Table { rows })
+    }
+
+    /// The rows by place.
+    pub fn rows(&self) -> &[Row]
+        ensures { λ r. ⌜ now r ≡ vec-items (now (self .entry) .rows) ⌝ }
+    {
+        self.rows.as_slice()
+    }
+
+    /// Lends the row at a place to be changed.
+    pub fn row_mut(&mut self, place: usize) -> &mut Row
+        requires { ⌜ place < vec-len (now self .rows) ⌝ }
+        ensures follows { λ r. sem 𝓤 H A (follows table-of row-of (name (self .entry)) (name r) (λ w. record { rows = with-item (now (self .entry) .rows) place w; short = now (self .entry) .short; roomy = now (self .entry) .roomy })) }
+        ensures value { λ r. ⌜ now r ≡ getD (vec-items (now (self .entry) .rows)) place nobody ⌝ }
+    {
+        &mut self.rows[place]
+    }
+
+    /// Puts a row in at a place. There is memory for it.
+    pub fn insert(&mut self, place: usize, row: Row)
+        requires inside { ⌜ place ≤ vec-len (now self .rows) ⌝ }
+        requires room { ⌜ vec-len (now self .rows) < 64 ⌝ }
+        ensures { λ _. ⌜ vec-items (now (self .exit) .rows) ≡ inserted (vec-items (now (self .entry) .rows)) place row ⌝ }
+    {
+        let _ = self.rows.insert(place, row);
+    }
+
+    /// Takes the row at a place out. Its memory serves again.
+    pub fn remove(&mut self, place: usize)
+        requires { ⌜ place < vec-len (now self .rows) ⌝ }
+        ensures { λ _. ⌜ vec-items (now (self .exit) .rows) ≡ removed (vec-items (now (self .entry) .rows)) place ⌝ }
+    {
+        let _ = self.rows.remove(place);
+    }
+}
