@@ -1,4 +1,6 @@
 ghost use Prim.Native.Nat.{_<_, _≤_};
+ghost use Rattle.field.specs.Refusals.{by-number};
+ghost use Rattle.sheet.specs.Content.{on, place as place-of, place-for};
 ghost use Rattle.sheet.specs.Standings.{nobody};
 ghost use Rattle.sheet.specs.contracts.row.Row.{the-row as row-of};
 ghost use Rattle.sheet.specs.contracts.table.Table.{the-row as table-of};
@@ -6,14 +8,17 @@ ghost use Rattle.std.specs.Changed.{with-item};
 ghost use Rattle.std.specs.Holes.{inserted, removed};
 ghost use Rattle.std.specs.Of.Vec.{vec-items, vec-len};
 ghost use Rattle.std.specs.Vec.{made};
+ghost use Rattle.std.specs.declared.result.Result.the-variants.{Ok, Err};
 ghost use denote.Follow.{follows};
 ghost use denote.Ref.{name};
 ghost use ghost.Atoms.{sem};
 ghost use lib.ListN.{getD};
+ghost use mathlib.Core.Bool.{cond};
 ghost use mathlib.Core.List.{[]};
 ghost use mathlib.Core.Path.{_≡_};
 use crate::row::Row;
 use crate::table::Table;
+use field::Refusal;
 use std::alloc::AllocError;
 use std::alloc::Global;
 
@@ -31,6 +36,33 @@ impl Table {
         ensures { λ r. ⌜ now r ≡ vec-items (now (self .entry) .rows) ⌝ }
     {
         self.rows.as_slice()
+    }
+
+    /// The place of the group with a number.
+    pub fn find(&self, number: u16) -> Result<usize, Refusal>
+        ensures { λ r. ⌜ by-number r ≡ cond (on number (vec-items (now (self .entry) .rows))) (Ok (place-of number (vec-items (now (self .entry) .rows)))) (Err 8) ⌝ }
+    {
+        let rows = self.rows();
+        for place in 0..rows.len() {
+            if rows[place].number == number {
+                return Ok(place);
+            }
+        }
+        Err(Refusal::Unknown)
+    }
+
+    /// The place for a new number, before the first higher one.
+    pub fn place_for(&self, number: u16) -> usize
+        ensures value { λ r. ⌜ r ≡ place-for number (vec-items (now (self .entry) .rows)) ⌝ }
+        ensures inside { λ r. ⌜ r ≤ vec-len (now (self .entry) .rows) ⌝ }
+    {
+        let rows = self.rows();
+        for place in 0..rows.len() {
+            if rows[place].number > number {
+                return place;
+            }
+        }
+        rows.len()
     }
 
     /// Lends the row at a place to be changed.
