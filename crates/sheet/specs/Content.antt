@@ -51,9 +51,9 @@ abbrev pub joined : Row → List Row → List Row
 joined r rs = inserted rs (place-for (r .number) rs) r
 
 -- each number is below all that follow
-abbrev pub ascending : List Row → Bool
-ascending [] = true
-ascending (r ∷ rs) = all-pass (λ s. ltb (r .number) (s .number)) rs && ascending rs
+abbrev pub rising : List ℕ → Bool
+rising [] = true
+rising (n ∷ ns) = all-pass (ltb n) ns && rising ns
 
 -- ---- what is reckoned from rows and pace
 

@@ -4,3 +4,4 @@ pub mod Bounded
 pub mod Content
 pub mod Calls
 pub mod Questions
+pub mod Sheets

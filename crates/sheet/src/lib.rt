@@ -1,7 +1,9 @@
 //! A start sheet: the groups that are to start at one tee, and the calls that change it.
 
+mod one_more;
 pub mod row;
 pub mod rows;
+pub mod sheet;
 mod table;
 
 pub use row::Row;
@@ -9,3 +11,4 @@ pub use row::Standing;
 pub use rows::Rows;
 pub use rows::RowsField;
 pub use rows::RowsNumbered;
+pub use sheet::Sheet;

@@ -11,6 +11,7 @@ mod told;
 
 pub use told::RowsField;
 pub use told::RowsNumbered;
+pub(crate) use told::row_at;
 
 /// Rows as a field, by the window that counts.
 #[derive(Drop)]

@@ -1,9 +1,12 @@
 //! What the rows tell, place by place.
 
 ghost use Rattle.sheet.specs.Bounded.{rows-told};
+ghost use Rattle.sheet.specs.Sound.{sound};
 ghost use Rattle.sheet.specs.Standings.{counts, nobody};
+ghost use Rattle.std.specs.shelf.Lawful.{all-pass};
 ghost use denote.Ref.{now as behind};
 ghost use lib.ListN.{getD};
+ghost use mathlib.Core.Bool.{true};
 ghost use mathlib.Core.List.{map};
 ghost use mathlib.Core.Path.{_≡_};
 use crate::row::Row;
@@ -13,7 +16,7 @@ use field::Field;
 use field::Numbered;
 
 /// The row at a place, and outside one with no number and the window 0..0.
-pub fn row_at(rows: &[Row], place: usize) -> Row
+pub(crate) fn row_at(rows: &[Row], place: usize) -> Row
     ensures { λ r. ⌜ r ≡ getD (now (rows .entry)) place nobody ⌝ }
 {
     if place < rows.len() {
@@ -25,6 +28,16 @@ pub fn row_at(rows: &[Row], place: usize) -> Row
             late: 0,
             standing: Standing::Waiting,
         }
+    }
+}
+
+impl Rows<'_> {
+    /// Sound rows as a field.
+    pub(crate) fn new(rows: &[Row]) -> Rows<'_>
+        requires { ⌜ all-pass sound (now rows) ≡ true ⌝ }
+        ensures { λ r. ⌜ behind (r .rows) ≡ now (rows .entry) ⌝ }
+    {
+        Rows { rows }
     }
 }
 
