@@ -5,3 +5,5 @@ pub mod Passing
 pub mod Soundness
 pub mod Playing
 pub mod Tried
+pub mod Stopping
+pub mod Stepping

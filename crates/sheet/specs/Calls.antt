@@ -34,9 +34,12 @@ abbrev pub made-or : {X : Type 0} → X → Result X ℕ → X
 made-or old (Ok new) = new
 made-or old (Err n) = old
 
--- the rows once a group has taken a step
+-- the place of a group, and its row once it has taken a step
+abbrev pub stepped-at : ℕ → Step → List Row → ℕ × Row
+stepped-at g s rs = (place g rs, made-or (row g rs) (stepped (row g rs) s))
+
 abbrev pub step-of : ℕ → Step → List Row → List Row
-step-of g s rs = set rs (place g rs) (made-or (row g rs) (stepped (row g rs) s))
+step-of g s rs = set rs (stepped-at g s rs .0) (stepped-at g s rs .1)
 
 abbrev pub with-rows : Content → List Row → Content
 with-rows c rs = record { rows = rs; pace = c .pace }

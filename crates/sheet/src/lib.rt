@@ -1,5 +1,6 @@
 //! A start sheet: the groups that are to start at one tee, and the calls that change it.
 
+mod bounds;
 mod one_more;
 pub mod row;
 pub mod rows;

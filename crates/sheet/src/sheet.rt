@@ -8,6 +8,7 @@ ghost use mathlib.Core.Bool.{true};
 ghost use mathlib.Core.Path.{_≡_};
 use crate::table::Table;
 
+mod asking;
 mod reading;
 mod trying;
 

@@ -1,0 +1,30 @@
+use borrow.Author.Needs.{needs}
+use mathlib.Core.Path.{_≡_}
+use mathlib.Core.List.{[], _∷_}
+use Prim.Native.Nat.{ℕ}
+use mir.Syntax.{w32}
+use mir.Val.{toZ, ofZ}
+use Rattle.std.specs.declared.option.Option.the-variants.{None}
+use Rattle.std.specs.declared.result.Result.{Result}
+use Rattle.std.specs.declared.result.Result.the-variants.{Err}
+use Rattle.field.specs.Refusals.{number-of, first-no}
+use Rattle.sheet.specs.Calls.{Enter, change-made}
+use Rattle.sheet.specs.Content.{place-for}
+use Rattle.sheet.specs.Questions.{answered, q-room, q-number, q-times, q-upright, q-new, q-order}
+use Rattle.sheet.specs.Sheets.{content}
+use Rattle.sheet.proofs.Stopping.{stops, of-both}
+use Rattle.sheet.proofs.sheet.Sheet.ask_enter.Needs as need
+
+pub returns-in-Break-ask-window : need.returns-in-Break-ask-window
+returns-in-Break-ask-window c =
+    let k = content (c .args .self .now) in
+    let g = c .args .number in
+    let e = c .args .early in
+    let l = c .args .late in
+    let q = c .in-Break-ask-window .field-0 .0 in
+    let none : first-no (q-room (k .rows) ∷ q-number g ∷ []) ≡ None = search needs in
+    let i : c .from-residual .result ≡ Err q = search needs in
+    let x : toZ w32 (ofZ w32 e) ≡ e = search needs in
+    let y : toZ w32 (ofZ w32 l) ≡ l = search needs in
+    let no = of-both (λ d k. _≡_ {A = Result (Unit {0}) ℕ} (Err (number-of q)) (answered (first-no (q-times d k ∷ q-upright d k ∷ [])) tt)) _ e _ l x y (c .in-Break-ask-window .ensures tt) in
+    stops (q-room (k .rows) ∷ q-number g ∷ []) (q-times e l ∷ q-upright e l ∷ []) (q-new g (k .rows) ∷ q-order (change-made (Enter g e l) k) ∷ []) _ q (place-for g (k .rows)) tt none i no
