@@ -7,3 +7,9 @@ pub mod Playing
 pub mod Tried
 pub mod Stopping
 pub mod Stepping
+pub mod Thinning
+pub mod Widening
+pub mod Ascending
+pub mod Keeping
+pub mod Thirteen
+pub mod Outcomes

@@ -1,12 +1,12 @@
 -- A search for the first row that passes a test, place by place.
 use mathlib.Core.Path.{_≡_, sym, ap, subst, _∙_}
 use mathlib.Core.Bool.{Bool, true, false, cond}
-use mathlib.Core.List.{List}
+use mathlib.Core.List.{List, [], _∷_}
 use Prim.Native.Nat.{ℕ, suc, _+_, _≤_, _<_}
 use native.Mathlib.Omega.{arith}
 use lib.ListN.{length, getD, drop}
 use Rattle.std.proofs.shelf.Lists.{at-drop-more, at-drop-all}
-use Rattle.std.proofs.shelf.Tests.{cond-true, cond-false, lt-ltb, le-ltb}
+use Rattle.std.proofs.shelf.Tests.{cond-true, cond-false, cond-both, lt-ltb, le-ltb}
 use Rattle.std.specs.declared.result.Result.{Result}
 use Rattle.std.specs.declared.result.Result.the-variants.{Ok, Err}
 use Rattle.sheet.specs.declared.row.Row.{Row}
@@ -38,3 +38,7 @@ module _ (g i : ℕ) (rs vs : List Row) (same : rs ≡ vs) (at : place g rs ≡ 
   missing h =
       let n = le-ltb (place g rs) (length rs) (omega arith) in
       subst (λ (us : List Row). _≡_ {A = Result ℕ ℕ} (Err 8) (cond (on g us) (Ok (place g us)) (Err 8))) same (sym (cond-false (on g rs) (Ok (place g rs)) (Err 8) n))
+
+pub first-inside : (t : Row → Bool) (rs : List Row) → first t rs ≤ length rs
+first-inside t [] = omega arith
+first-inside t (r ∷ rs) = cond-both (t r) 0 (suc (first t rs)) (λ (n : ℕ). n ≤ suc (length rs)) (λ _. omega arith) (λ _. let h = first-inside t rs in omega arith)

@@ -94,10 +94,13 @@ abbrev pub answered : {X : Type 0} → Option ℕ → X → Result X ℕ
 answered None x = Ok x
 answered (Some n) x = Err n
 
--- and the sheet remains as before
 abbrev pub after : Option ℕ → Content → Content → Content
 after None new old = new
 after (Some n) new old = old
+
+-- what is held after a call that may change it: the change made, or else what was held
+abbrev pub held-after : Content → Call → Content
+held-after c call = after (verdict c call 0) (change-made call c) c
 
 abbrev pub before-13 : List Question → List Question
 before-13 qs = kept-by (λ q. ltb (q .number) 13) qs

@@ -9,6 +9,7 @@ ghost use mathlib.Core.Path.{_≡_};
 use crate::table::Table;
 
 mod asking;
+mod calls;
 mod reading;
 mod trying;
 

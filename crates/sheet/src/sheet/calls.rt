@@ -1,0 +1,101 @@
+//! The calls that change a sheet. Each puts its questions first, and writes on its last lines alone.
+
+ghost use Rattle.field.specs.Refusals.{by-number};
+ghost use Rattle.sheet.specs.Calls.{CallUp, Change, Enter, Pace, SendAway, StandDown, Withdraw};
+ghost use Rattle.sheet.specs.Questions.{Thirteen, answered, held-after, verdict};
+ghost use Rattle.sheet.specs.Sheets.{content};
+ghost use mathlib.Core.Path.{_≡_};
+use crate::row::Row;
+use crate::row::Standing;
+use crate::row::Step;
+use crate::sheet::Sheet;
+use field::Refusal;
+
+impl Sheet {
+    /// Adds a waiting group with a number and a window.
+    pub fn enter(&mut self, number: u16, early: i32, late: i32) -> Result<(), Refusal>
+        ensures answer { λ r. ⌜ by-number r ≡ answered (verdict (content (now (self .entry))) (Enter number early late) 0) tt ⌝ }
+        ensures held { λ _. ⌜ content (now (self .exit)) ≡ held-after (content (now (self .entry))) (Enter number early late) ⌝ }
+        ensures number { λ _. ⌜ now (self .exit) .number ≡ now (self .entry) .number ⌝ }
+        ensures thirteen { λ r. ⌜ Thirteen (content (now (self .entry))) (Enter number early late) 0 r ⌝ }
+    {
+        let place = self.ask_enter(number, early, late)?;
+        let row = Row {
+            number,
+            early,
+            late,
+            standing: Standing::Waiting,
+        };
+        self.table.insert(place, row);
+        Ok(())
+    }
+
+    /// Gives a waiting group a new window.
+    pub fn change(&mut self, number: u16, early: i32, late: i32) -> Result<(), Refusal>
+        ensures answer { λ r. ⌜ by-number r ≡ answered (verdict (content (now (self .entry))) (Change number early late) 0) tt ⌝ }
+        ensures held { λ _. ⌜ content (now (self .exit)) ≡ held-after (content (now (self .entry))) (Change number early late) ⌝ }
+        ensures number { λ _. ⌜ now (self .exit) .number ≡ now (self .entry) .number ⌝ }
+        ensures thirteen { λ r. ⌜ Thirteen (content (now (self .entry))) (Change number early late) 0 r ⌝ }
+    {
+        let (place, row) = self.ask_change(number, early, late)?;
+        *self.table.row_mut(place) = row;
+        Ok(())
+    }
+
+    /// Removes a waiting or called group. Its row serves again.
+    pub fn withdraw(&mut self, number: u16) -> Result<(), Refusal>
+        ensures answer { λ r. ⌜ by-number r ≡ answered (verdict (content (now (self .entry))) (Withdraw number) 0) tt ⌝ }
+        ensures held { λ _. ⌜ content (now (self .exit)) ≡ held-after (content (now (self .entry))) (Withdraw number) ⌝ }
+        ensures number { λ _. ⌜ now (self .exit) .number ≡ now (self .entry) .number ⌝ }
+    {
+        let (place, _) = self.ask_step(number, Step::Withdraw)?;
+        self.table.remove(place);
+        Ok(())
+    }
+
+    /// Sets the pace.
+    pub fn pace(&mut self, seconds: u16) -> Result<(), Refusal>
+        ensures answer { λ r. ⌜ by-number r ≡ answered (verdict (content (now (self .entry))) (Pace seconds) 0) tt ⌝ }
+        ensures held { λ _. ⌜ content (now (self .exit)) ≡ held-after (content (now (self .entry))) (Pace seconds) ⌝ }
+        ensures number { λ _. ⌜ now (self .exit) .number ≡ now (self .entry) .number ⌝ }
+        ensures thirteen { λ r. ⌜ Thirteen (content (now (self .entry))) (Pace seconds) 0 r ⌝ }
+    {
+        self.ask_pace(seconds)?;
+        self.pace = seconds;
+        Ok(())
+    }
+
+    /// Makes a waiting group called at a time.
+    pub fn call(&mut self, number: u16, time: i32) -> Result<(), Refusal>
+        ensures answer { λ r. ⌜ by-number r ≡ answered (verdict (content (now (self .entry))) (CallUp number time) 0) tt ⌝ }
+        ensures held { λ _. ⌜ content (now (self .exit)) ≡ held-after (content (now (self .entry))) (CallUp number time) ⌝ }
+        ensures number { λ _. ⌜ now (self .exit) .number ≡ now (self .entry) .number ⌝ }
+        ensures thirteen { λ r. ⌜ Thirteen (content (now (self .entry))) (CallUp number time) 0 r ⌝ }
+    {
+        let (place, row) = self.ask_call(number, time)?;
+        *self.table.row_mut(place) = row;
+        Ok(())
+    }
+
+    /// Makes a called group waiting in its old window.
+    pub fn stand_down(&mut self, number: u16) -> Result<(), Refusal>
+        ensures answer { λ r. ⌜ by-number r ≡ answered (verdict (content (now (self .entry))) (StandDown number) 0) tt ⌝ }
+        ensures held { λ _. ⌜ content (now (self .exit)) ≡ held-after (content (now (self .entry))) (StandDown number) ⌝ }
+        ensures number { λ _. ⌜ now (self .exit) .number ≡ now (self .entry) .number ⌝ }
+    {
+        let (place, row) = self.ask_step(number, Step::StandDown)?;
+        *self.table.row_mut(place) = row;
+        Ok(())
+    }
+
+    /// Makes a called group away at the time that it was called for.
+    pub fn away(&mut self, number: u16) -> Result<(), Refusal>
+        ensures answer { λ r. ⌜ by-number r ≡ answered (verdict (content (now (self .entry))) (SendAway number) 0) tt ⌝ }
+        ensures held { λ _. ⌜ content (now (self .exit)) ≡ held-after (content (now (self .entry))) (SendAway number) ⌝ }
+        ensures number { λ _. ⌜ now (self .exit) .number ≡ now (self .entry) .number ⌝ }
+    {
+        let (place, row) = self.ask_step(number, Step::SendAway)?;
+        *self.table.row_mut(place) = row;
+        Ok(())
+    }
+}
