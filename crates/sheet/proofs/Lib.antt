@@ -13,3 +13,4 @@ pub mod Ascending
 pub mod Keeping
 pub mod Thirteen
 pub mod Outcomes
+pub mod Listing

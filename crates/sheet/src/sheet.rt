@@ -10,6 +10,7 @@ use crate::table::Table;
 
 mod asking;
 mod calls;
+mod lists;
 mod reading;
 mod trying;
 

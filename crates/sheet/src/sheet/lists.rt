@@ -1,0 +1,56 @@
+//! The calls that write a list. They borrow the sheet, and so leave it as it is.
+
+ghost use Rattle.field.specs.Refusals.{by-number};
+ghost use Rattle.reckoning.specs.Lists.{answer, leaves};
+ghost use Rattle.reckoning.specs.Order.{Plays};
+ghost use Rattle.reckoning.specs.Spans.{Unused};
+ghost use Rattle.sheet.specs.Calls.{Order, Spans, Through, change-made};
+ghost use Rattle.sheet.specs.Content.{order-of, spans-of, windows-of};
+ghost use Rattle.sheet.specs.Questions.{Thirteen, answered, verdict};
+ghost use Rattle.sheet.specs.Sheets.{content};
+ghost use Rattle.std.specs.Results.{Cases};
+ghost use lib.IntN.{pos};
+ghost use lib.ListN.{length, take};
+ghost use mathlib.Core.Path.{_≡_};
+use crate::rows::RowsField;
+use crate::rows::RowsNumbered;
+use crate::sheet::Sheet;
+use field::Held;
+use field::HeldField;
+use field::HeldNumbered;
+use field::Refusal;
+use reckoning::Start;
+use reckoning::order::order;
+use reckoning::spans::spans;
+use theory::Span;
+
+impl Sheet {
+    /// Writes the written order of the rows, and answers how many entries it has.
+    pub fn order(&self, list: &mut [Start]) -> Result<usize, Refusal>
+        ensures answer { λ r. ⌜ by-number r ≡ answer (answered (verdict (content (now (self .entry))) Order (length (now (list .entry)))) (order-of (content (now (self .entry))))) ⌝ }
+        ensures list { λ _. ⌜ now (list .exit) ≡ leaves (answered (verdict (content (now (self .entry))) Order (length (now (list .entry)))) (order-of (content (now (self .entry))))) (now (list .entry)) ⌝ }
+        ensures plays { λ r. ⌜ Cases r (λ n. Plays (pos (content (now (self .entry)) .pace)) (windows-of (content (now (self .entry)) .rows)) (take n (now (list .exit)))) (λ _. Unit {0}) ⌝ }
+    {
+        order(&self.rows(), self.pace, list)
+    }
+
+    /// Writes the closed spans in the order found, and answers how many there are.
+    pub fn spans(&self, list: &mut [Span]) -> Result<usize, Refusal>
+        ensures answer { λ r. ⌜ by-number r ≡ answer (answered (verdict (content (now (self .entry))) Spans (length (now (list .entry)))) (spans-of (content (now (self .entry))))) ⌝ }
+        ensures list { λ _. ⌜ now (list .exit) ≡ leaves (answered (verdict (content (now (self .entry))) Spans (length (now (list .entry)))) (spans-of (content (now (self .entry))))) (now (list .entry)) ⌝ }
+        ensures unused { λ r. ⌜ Cases r (λ n. Unused (pos (content (now (self .entry)) .pace)) (windows-of (content (now (self .entry)) .rows)) (take n (now (list .exit)))) (λ _. Unit {0}) ⌝ }
+    {
+        spans(&self.rows(), self.pace, list)
+    }
+
+    /// Writes the written order of the rows with one group held at one time, and answers how many entries it has.
+    pub fn through(&self, number: u16, time: i32, list: &mut [Start]) -> Result<usize, Refusal>
+        ensures answer { λ r. ⌜ by-number r ≡ answer (answered (verdict (content (now (self .entry))) (Through number time) (length (now (list .entry)))) (order-of (change-made (Through number time) (content (now (self .entry)))))) ⌝ }
+        ensures list { λ _. ⌜ now (list .exit) ≡ leaves (answered (verdict (content (now (self .entry))) (Through number time) (length (now (list .entry)))) (order-of (change-made (Through number time) (content (now (self .entry)))))) (now (list .entry)) ⌝ }
+        ensures thirteen { λ r. ⌜ Thirteen (content (now (self .entry))) (Through number time) (length (now (list .entry))) r ⌝ }
+        ensures plays { λ r. ⌜ Cases r (λ n. Plays (pos (content (now (self .entry)) .pace)) (windows-of (change-made (Through number time) (content (now (self .entry))) .rows)) (take n (now (list .exit)))) (λ _. Unit {0}) ⌝ }
+    {
+        let place = self.ask_hold(number, time)?;
+        order(&Held::new(self.rows(), place, time, time), self.pace, list)
+    }
+}
