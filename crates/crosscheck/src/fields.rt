@@ -7,11 +7,13 @@ ghost use lib.IntN.{negsuc};
 ghost use lib.ListN.{set};
 ghost use mathlib.Core.List.{map};
 ghost use mathlib.Core.Path.{_≡_};
+use crate::telling::no_spans;
+use crate::telling::no_starts;
+use crate::telling::tell_list;
 use field::Field;
 use field::Held;
 use field::HeldField;
 use field::Refusal;
-use field::RefusalDisplay;
 use field::Reversed;
 use field::ReversedField;
 use field::Strip;
@@ -117,47 +119,16 @@ fn strip_of(heap: Global, groups: &[(i32, i32)]) -> Result<Vec<u8>, AllocError> 
     Ok(bytes)
 }
 
-fn no_spans() -> [Span; 64] {
-    [Span { first: 0, last: 0 }; 64]
-}
-
-fn no_starts() -> [Start; 64] {
-    [Start {
-        place: 0,
-        number: 0,
-        start: 0,
-    }; 64]
-}
-
-/// The entries that a call wrote, or its refusal.
-fn tell<T: fmt::Display>(
-    rt: &LibcRuntime,
-    what: &str,
-    result: Result<usize, Refusal>,
-    list: &[T],
-) -> io::Result<()> {
-    match result {
-        Err(refusal) => println!(rt, "  {what} refused {refusal}"),
-        Ok(count) => {
-            print!(rt, "  {what} {count}:")?;
-            for entry in list.iter().take(count) {
-                print!(rt, " {entry}")?;
-            }
-            println!(rt, "")
-        }
-    }
-}
-
 /// Closed spans and written order of a strip.
 fn tell_field(rt: &LibcRuntime, title: &str, pace: u16, bytes: &[u8]) -> io::Result<()> {
     println!(rt, "{title}, pace {pace}")?;
     let strip = Strip { bytes };
     let mut found = no_spans();
     let told = spans(&strip, pace, &mut found);
-    tell(rt, "spans", told, &found)?;
+    tell_list(rt, "spans", told, &found)?;
     let mut starts = no_starts();
     let told = order(&strip, pace, &mut starts);
-    tell(rt, "order", told, &starts)
+    tell_list(rt, "order", told, &starts)
 }
 
 /// All entries of a list, whatever the call wrote.
@@ -167,7 +138,7 @@ fn tell_whole<T: fmt::Display>(
     result: Result<usize, Refusal>,
     list: &[T],
 ) -> io::Result<()> {
-    tell(rt, what, result, list)?;
+    tell_list(rt, what, result, list)?;
     print!(rt, "  and the list is")?;
     for entry in list {
         print!(rt, " {entry}")?;

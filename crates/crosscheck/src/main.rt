@@ -1,6 +1,8 @@
 //! Runs the examples of the rules and prints what was told. The gate compares it with `stdout`.
 
 mod fields;
+mod sheets;
+mod telling;
 
 use std::io;
 
@@ -8,5 +10,7 @@ fn main(rt: LibcRuntime) -> io::Result<()> {
     fields::samples(&rt)?;
     fields::crowded(&rt)?;
     fields::short_lists(&rt)?;
-    fields::piles(&rt)
+    fields::piles(&rt)?;
+    sheets::stories(&rt)?;
+    sheets::crowds(&rt)
 }
