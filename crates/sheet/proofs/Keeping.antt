@@ -20,10 +20,10 @@ use Rattle.sheet.specs.declared.row.Row.{Row}
 use Rattle.sheet.specs.declared.row.Step.{Step}
 use Rattle.sheet.specs.declared.row.Step.the-variants as step
 use Rattle.sheet.specs.declared.sheet.Sheet.{Sheet}
-use Rattle.sheet.specs.Standings.{nobody, stepped}
+use Rattle.sheet.specs.Standings.{stepped, waiting}
 use Rattle.sheet.specs.Sound.{sound}
 use Rattle.sheet.specs.Content.{Content, place, place-for, on, row, joined, rising, numbers-of, paced, playable}
-use Rattle.sheet.specs.Calls.{Call, Enter, Change, Withdraw, Pace, CallUp, StandDown, SendAway, waiting, made-or, step-of, change-made}
+use Rattle.sheet.specs.Calls.{Call, Enter, Change, Withdraw, Pace, CallUp, StandDown, SendAway, made-or, step-of, change-made}
 use Rattle.sheet.specs.Questions.{questions, verdict}
 use Rattle.sheet.specs.Sheets.{content}
 use Rattle.sheet.proofs.Passing.{pass-set, pass-inserted, pass-removed}

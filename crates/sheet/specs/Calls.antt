@@ -7,10 +7,10 @@ use Rattle.std.specs.Holes.{removed}
 use Rattle.std.specs.declared.result.Result.{Result}
 use Rattle.std.specs.declared.result.Result.the-variants.{Ok, Err}
 use Rattle.sheet.specs.declared.row.Row.{Row}
-use Rattle.sheet.specs.declared.row.Standing.the-variants.{Waiting, Called}
+use Rattle.sheet.specs.declared.row.Standing.the-variants.{Called}
 use Rattle.sheet.specs.declared.row.Step.{Step}
 use Rattle.sheet.specs.declared.row.Step.the-variants as step
-use Rattle.sheet.specs.Standings.{stood, stepped}
+use Rattle.sheet.specs.Standings.{stood, stepped, waiting}
 use Rattle.sheet.specs.Content.{Content, place, row, joined}
 
 -- g names a group by number, e and l are an early and a late start, t is a time and p a pace
@@ -25,9 +25,6 @@ pub data Call : Type 0 where
   Order : Call
   Through : (g : ℕ) (t : ℤ) → Call
   Spans : Call
-
-abbrev pub waiting : ℕ → ℤ → ℤ → Row
-waiting g e l = record { number = g; early = e; late = l; standing = Waiting }
 
 -- what was made, or else what was there
 abbrev pub made-or : {X : Type 0} → X → Result X ℕ → X

@@ -25,7 +25,10 @@ window-by (Away t) e l = window t t
 abbrev pub counts : Row → Window
 counts r = window-by (r .standing) (r .early) (r .late)
 
--- a row with another standing
+-- a waiting group's row, and a row with another standing
+abbrev pub waiting : ℕ → ℤ → ℤ → Row
+waiting g e l = record { number = g; early = e; late = l; standing = Waiting }
+
 abbrev pub stood : Row → Standing → Row
 stood r s = record { number = r .number; early = r .early; late = r .late; standing = s }
 
@@ -33,7 +36,7 @@ stood r s = record { number = r .number; early = r .early; late = r .late; stand
 -- group called at a time. Stand down makes a called group waiting in its old window. Away makes a called group
 -- away at that time. To all else the standing says no: 10.
 abbrev pub step-by : Standing → Step → Row → Result Row ℕ
-step-by Waiting (Change e l) r = Ok (record { number = r .number; early = e; late = l; standing = Waiting })
+step-by Waiting (Change e l) r = Ok (waiting (r .number) e l)
 step-by Waiting Withdraw r = Ok r
 step-by Waiting (CallUp t) r = Ok (stood r (Called t))
 step-by Waiting StandDown r = Err 10

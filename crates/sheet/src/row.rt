@@ -1,7 +1,7 @@
 //! A group's row, and what each standing allows.
 
 ghost use Rattle.field.specs.Refusals.{by-number};
-ghost use Rattle.sheet.specs.Standings.{counts, stepped};
+ghost use Rattle.sheet.specs.Standings.{counts, stepped, stood, waiting};
 ghost use mathlib.Core.Path.{_≡_};
 use field::Refusal;
 
@@ -38,6 +38,25 @@ pub enum Step {
 }
 
 impl Row {
+    /// A waiting group.
+    pub fn waiting(number: u16, early: i32, late: i32) -> Row
+        ensures { λ r. ⌜ r ≡ waiting number early late ⌝ }
+    {
+        Row {
+            number,
+            early,
+            late,
+            standing: Standing::Waiting,
+        }
+    }
+
+    /// The same group with another standing.
+    fn stood(self, standing: Standing) -> Row
+        ensures { λ r. ⌜ r ≡ stood self standing ⌝ }
+    {
+        Row { standing, ..self }
+    }
+
     /// The early and the late of the window that counts.
     pub fn counts(&self) -> (i32, i32)
         ensures early { λ r. ⌜ r .0 ≡ counts (now (self .entry)) .early ⌝ }
@@ -55,25 +74,14 @@ impl Row {
         ensures { λ r. ⌜ by-number r ≡ stepped self step ⌝ }
     {
         match (self.standing, step) {
-            (Standing::Waiting, Step::Change { early, late }) => Ok(Row {
-                early,
-                late,
-                ..self
-            }),
+            (Standing::Waiting, Step::Change { early, late }) => {
+                Ok(Row::waiting(self.number, early, late))
+            }
             (Standing::Waiting, Step::Withdraw) => Ok(self),
             (Standing::Called(_), Step::Withdraw) => Ok(self),
-            (Standing::Waiting, Step::CallUp(time)) => Ok(Row {
-                standing: Standing::Called(time),
-                ..self
-            }),
-            (Standing::Called(_), Step::StandDown) => Ok(Row {
-                standing: Standing::Waiting,
-                ..self
-            }),
-            (Standing::Called(time), Step::SendAway) => Ok(Row {
-                standing: Standing::Away(time),
-                ..self
-            }),
+            (Standing::Waiting, Step::CallUp(time)) => Ok(self.stood(Standing::Called(time))),
+            (Standing::Called(_), Step::StandDown) => Ok(self.stood(Standing::Waiting)),
+            (Standing::Called(time), Step::SendAway) => Ok(self.stood(Standing::Away(time))),
             _ => Err(Refusal::WrongStanding),
         }
     }

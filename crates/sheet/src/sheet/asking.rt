@@ -14,7 +14,6 @@ use crate::bounds::is_number;
 use crate::bounds::is_pace;
 use crate::bounds::is_within;
 use crate::row::Row;
-use crate::row::Standing;
 use crate::row::Step;
 use crate::sheet::Sheet;
 use field::Refusal;
@@ -35,13 +34,7 @@ impl Sheet {
             return Err(Refusal::NumberTaken);
         }
         let place = self.table.place_for(number);
-        let row = Row {
-            number,
-            early,
-            late,
-            standing: Standing::Waiting,
-        };
-        if !self.plays_also(place, row) {
+        if !self.plays_also(place, Row::waiting(number, early, late)) {
             return Err(Refusal::NoOrder);
         }
         Ok(place)

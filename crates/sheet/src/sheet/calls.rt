@@ -6,7 +6,6 @@ ghost use Rattle.sheet.specs.Questions.{Thirteen, answered, held-after, verdic
 ghost use Rattle.sheet.specs.Sheets.{content};
 ghost use mathlib.Core.Path.{_≡_};
 use crate::row::Row;
-use crate::row::Standing;
 use crate::row::Step;
 use crate::sheet::Sheet;
 use field::Refusal;
@@ -20,13 +19,7 @@ impl Sheet {
         ensures thirteen { λ r. ⌜ Thirteen (content (now (self .entry))) (Enter number early late) 0 r ⌝ }
     {
         let place = self.ask_enter(number, early, late)?;
-        let row = Row {
-            number,
-            early,
-            late,
-            standing: Standing::Waiting,
-        };
-        self.table.insert(place, row);
+        self.table.insert(place, Row::waiting(number, early, late));
         Ok(())
     }
 

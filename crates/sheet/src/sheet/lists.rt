@@ -29,6 +29,7 @@ impl Sheet {
     pub fn order(&self, list: &mut [Start]) -> Result<usize, Refusal>
         ensures answer { λ r. ⌜ by-number r ≡ answer (answered (verdict (content (now (self .entry))) Order (length (now (list .entry)))) (order-of (content (now (self .entry))))) ⌝ }
         ensures list { λ _. ⌜ now (list .exit) ≡ leaves (answered (verdict (content (now (self .entry))) Order (length (now (list .entry)))) (order-of (content (now (self .entry))))) (now (list .entry)) ⌝ }
+        ensures held { λ _. ⌜ content (now (self .exit)) ≡ content (now (self .entry)) ⌝ }
         ensures plays { λ r. ⌜ Cases r (λ n. Plays (pos (content (now (self .entry)) .pace)) (windows-of (content (now (self .entry)) .rows)) (take n (now (list .exit)))) (λ _. Unit {0}) ⌝ }
     {
         order(&self.rows(), self.pace, list)
@@ -38,6 +39,7 @@ impl Sheet {
     pub fn spans(&self, list: &mut [Span]) -> Result<usize, Refusal>
         ensures answer { λ r. ⌜ by-number r ≡ answer (answered (verdict (content (now (self .entry))) Spans (length (now (list .entry)))) (spans-of (content (now (self .entry))))) ⌝ }
         ensures list { λ _. ⌜ now (list .exit) ≡ leaves (answered (verdict (content (now (self .entry))) Spans (length (now (list .entry)))) (spans-of (content (now (self .entry))))) (now (list .entry)) ⌝ }
+        ensures held { λ _. ⌜ content (now (self .exit)) ≡ content (now (self .entry)) ⌝ }
         ensures unused { λ r. ⌜ Cases r (λ n. Unused (pos (content (now (self .entry)) .pace)) (windows-of (content (now (self .entry)) .rows)) (take n (now (list .exit)))) (λ _. Unit {0}) ⌝ }
     {
         spans(&self.rows(), self.pace, list)
@@ -47,6 +49,7 @@ impl Sheet {
     pub fn through(&self, number: u16, time: i32, list: &mut [Start]) -> Result<usize, Refusal>
         ensures answer { λ r. ⌜ by-number r ≡ answer (answered (verdict (content (now (self .entry))) (Through number time) (length (now (list .entry)))) (order-of (change-made (Through number time) (content (now (self .entry)))))) ⌝ }
         ensures list { λ _. ⌜ now (list .exit) ≡ leaves (answered (verdict (content (now (self .entry))) (Through number time) (length (now (list .entry)))) (order-of (change-made (Through number time) (content (now (self .entry)))))) (now (list .entry)) ⌝ }
+        ensures held { λ _. ⌜ content (now (self .exit)) ≡ content (now (self .entry)) ⌝ }
         ensures thirteen { λ r. ⌜ Thirteen (content (now (self .entry))) (Through number time) (length (now (list .entry))) r ⌝ }
         ensures plays { λ r. ⌜ Cases r (λ n. Plays (pos (content (now (self .entry)) .pace)) (windows-of (change-made (Through number time) (content (now (self .entry))) .rows)) (take n (now (list .exit)))) (λ _. Unit {0}) ⌝ }
     {

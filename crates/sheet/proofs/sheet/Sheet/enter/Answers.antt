@@ -12,10 +12,11 @@ use Rattle.std.specs.declared.result.Result.{Result}
 use Rattle.std.specs.declared.result.Result.the-variants.{Ok, Err}
 use Rattle.field.specs.Refusals.{number-of}
 use Rattle.sheet.specs.declared.row.Row.{Row}
-use Rattle.sheet.specs.Calls.{Enter, change-made, waiting, with-rows}
+use Rattle.sheet.specs.Calls.{Enter, change-made, with-rows}
 use Rattle.sheet.specs.Content.{place-for}
 use Rattle.sheet.specs.Questions.{answered, questions, verdict}
 use Rattle.sheet.specs.Sheets.{content}
+use Rattle.sheet.specs.Standings.{waiting}
 use Rattle.sheet.proofs.Keeping.{all-yes, kept-by-sheet, owed, enter-keeps}
 use Rattle.sheet.proofs.Outcomes.{Passed, passes, refusal, success}
 use Rattle.sheet.proofs.Searching.{first-inside}
@@ -68,7 +69,8 @@ ghost-self c =
     let p = said (need.at·ghost-self c .In-Continue-place) in
     let x : toZ w32 (ofZ w32 e) ≡ e = search needs in
     let y : toZ w32 (ofZ w32 l) ≡ l = search needs in
-    let rows = c .insert .ensures ∙ (λ j. inserted (k .rows) (p .value j) (waiting g (x j) (y j))) in
+    let new = c .waiting .ensures ∙ (λ j. waiting g (x j) (y j)) in
+    let rows = c .insert .ensures ∙ (λ j. inserted (k .rows) (p .value j) (new j)) in
     owed (change-made (Enter g e l) k) (enter-keeps k (kept-by-sheet s) g e l (p .none)) _ (s .pace) rows refl
 
 pub returns : need.returns
@@ -81,6 +83,7 @@ returns c =
     let p = said (need.at·returns c .In-Continue-place) in
     let x : toZ w32 (ofZ w32 e) ≡ e = search needs in
     let y : toZ w32 (ofZ w32 l) ≡ l = search needs in
-    let rows = c .insert .ensures ∙ (λ j. inserted (k .rows) (p .value j) (waiting g (x j) (y j))) in
+    let new = c .waiting .ensures ∙ (λ j. waiting g (x j) (y j)) in
+    let rows = c .insert .ensures ∙ (λ j. inserted (k .rows) (p .value j) (new j)) in
     let o = success k (Enter g e l) _ (p .none) (ap (with-rows k) rows) in
     record { answer = o .answer; held = o .held; number = refl; thirteen = enter-13 k (s .steady) (Ok tt) tt g e l (o .answer) }

@@ -1,4 +1,4 @@
-use mathlib.Core.Path.{ap, subst, _∙_}
+use mathlib.Core.Path.{refl, ap, subst, _∙_}
 use mathlib.Core.List.{List, map}
 use lib.IntN.{pos}
 use lib.ListN.{length, take}
@@ -26,5 +26,6 @@ returns c =
     record {
       answer = c .order .ensures .answer ∙ ap answer told;
       list = c .order .ensures .list ∙ ap (λ o. leaves o before) told;
+      held = refl;
       plays = subst (λ (us : List Row). Cases (c .order .result) (λ n. Plays (pos p) (windows-of us) (take n (c .order .last .list))) (λ _. Unit {0})) (c .rows .ensures .rows) (c .order .ensures .plays);
     }

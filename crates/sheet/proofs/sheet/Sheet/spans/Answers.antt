@@ -1,4 +1,4 @@
-use mathlib.Core.Path.{ap, subst, _∙_}
+use mathlib.Core.Path.{refl, ap, subst, _∙_}
 use mathlib.Core.List.{List, reverse}
 use lib.IntN.{pos}
 use lib.ListN.{length, take}
@@ -23,5 +23,6 @@ returns c =
     record {
       answer = c .spans .ensures .answer ∙ ap answer told;
       list = c .spans .ensures .list ∙ ap (λ o. leaves o before) told;
+      held = refl;
       unused = subst (λ (us : List Row). Cases (c .spans .result) (λ n. Unused (pos p) (windows-of us) (take n (c .spans .last .list))) (λ _. Unit {0})) (c .rows .ensures .rows) (c .spans .ensures .unused);
     }

@@ -48,6 +48,7 @@ returns-in-Break-place c =
     record {
       answer = said ∙ sym (counted (verdict k (Through g t) room) xs);
       list = sym (ap (λ (o : Option ℕ). leaves (answered o xs) (c .args .list .now)) v);
+      held = refl;
       thirteen = through-13 k (s .steady) r (length xs) g t room said;
       plays = subst (λ (z : Result ℕ Refusal). Cases z (λ n. Plays (pos (s .pace)) (windows-of (new .rows)) (take n (c .args .list .now))) (λ _. Unit {0})) (sym i) tt;
     }
@@ -74,6 +75,7 @@ returns c =
     record {
       answer = said;
       list = c .order .ensures .list ∙ ap (λ o. leaves o before) told;
+      held = refl;
       thirteen = through-13 k (s .steady) (c .order .result) (length xs) g t room (said ∙ counted (verdict k (Through g t) room) xs);
       plays = subst (λ (ws : List Window). Cases (c .order .result) (λ n. Plays (pos (s .pace)) ws (take n (c .order .last .list))) (λ _. Unit {0})) windows (c .order .ensures .plays);
     }
