@@ -1,6 +1,10 @@
 //! The closed list of the answers that refuse a call.
 
-ghost use Rattle.field.specs.Refusals.{number-of};
+ghost use Rattle.field.specs.Refusals.{number-of, words-of};
+ghost use Rattle.std.specs.Written.{decimal};
+ghost use Rattle.std.specs.declared.option.Option.the-variants.{Some};
+ghost use lib.Chars.{codes};
+ghost use mathlib.Core.List.{_++_};
 ghost use mathlib.Core.Path.{_≡_};
 use std::fmt;
 
@@ -44,7 +48,9 @@ impl Refusal {
     }
 
     /// What is wrong, in words.
-    fn words(self) -> &'static str {
+    fn words(self) -> &'static str
+        ensures { λ r. ⌜ now r ≡ words-of self ⌝ }
+    {
         match self {
             Refusal::TrialOpen => "a trial is open",
             Refusal::WrongSlip => "no trial is open, or the slip is another sheet's",
@@ -64,6 +70,8 @@ impl Refusal {
 }
 
 pub impl fmt::Display for Refusal as RefusalDisplay {
+    ghost shown = { λ q. Some (decimal (number-of q) ++ (codes ": " ++ words-of q)) };
+
     fn fmt<W: fmt::Write>(&self, f: &mut fmt::Formatter<W>) -> fmt::Result {
         let number = self.number();
         let words = self.words();

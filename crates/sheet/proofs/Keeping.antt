@@ -1,15 +1,11 @@
 -- What every sheet keeps to, and that a call whose questions are all passed leaves it so.
-use mathlib.Core.Path.{_≡_, refl, sym, ap, subst, _∙_}
-use mathlib.Core.Bool.{Bool, true, false, cond, _&&_}
+use mathlib.Core.Path.{_≡_, refl, ap, _∙_}
+use mathlib.Core.Bool.{Bool, true, false, cond}
 use mathlib.Core.List.{List, [], _∷_}
 use Prim.Native.Nat.{ℕ}
 use native.Mathlib.Omega.{arith}
-use lib.Dec.{leb}
 use lib.IntN.{ℤ}
-use lib.ListN.{set}
-use lib.Signed.{leZ}
 use Rattle.std.specs.Holes.{removed}
-use Rattle.std.specs.Results.{isOk}
 use Rattle.std.specs.shelf.Lawful.{all-pass}
 use Rattle.std.specs.shelf.Lists.{All}
 use Rattle.std.specs.declared.option.Option.the-variants.{Some, None}
@@ -22,8 +18,8 @@ use Rattle.sheet.specs.declared.row.Step.the-variants as step
 use Rattle.sheet.specs.declared.sheet.Sheet.{Sheet}
 use Rattle.sheet.specs.Standings.{stepped, waiting}
 use Rattle.sheet.specs.Sound.{sound}
-use Rattle.sheet.specs.Content.{Content, place, place-for, on, row, joined, rising, numbers-of, paced, playable}
-use Rattle.sheet.specs.Calls.{Call, Enter, Change, Withdraw, Pace, CallUp, StandDown, SendAway, made-or, step-of, change-made}
+use Rattle.sheet.specs.Content.{Content, place, place-for, on, row, rising, numbers-of, paced, playable}
+use Rattle.sheet.specs.Calls.{Enter, Change, Withdraw, Pace, CallUp, StandDown, SendAway, made-or, step-of, change-made}
 use Rattle.sheet.specs.Questions.{questions, verdict}
 use Rattle.sheet.specs.Sheets.{content}
 use Rattle.sheet.proofs.Passing.{pass-set, pass-inserted, pass-removed}

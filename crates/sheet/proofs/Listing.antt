@@ -1,25 +1,22 @@
 -- What a list of the rows tells, by the sheet's own questions.
-use mathlib.Core.Path.{_≡_, refl, sym, ap, subst, _∙_}
+use mathlib.Core.Path.{_≡_, refl, sym, ap, _∙_}
 use mathlib.Core.Bool.{Bool, true, false, cond}
-use mathlib.Core.List.{List, [], _∷_, _++_, map}
+use mathlib.Core.List.{List, [], _∷_, map}
 use Prim.Native.Nat.{ℕ, _≤_}
 use native.Mathlib.Omega.{arith}
 use lib.Dec.{leb}
 use lib.IntN.{ℤ, pos}
-use lib.ListN.{length, set}
+use lib.ListN.{length}
 use Rattle.std.proofs.shelf.Lists.{length-map, length-set}
 use Rattle.std.specs.Options.{isSome, valueOr}
 use Rattle.std.specs.shelf.Lawful.{all-pass}
 use Rattle.std.specs.declared.option.Option.{Option}
 use Rattle.std.specs.declared.option.Option.the-variants.{Some, None}
-use Rattle.std.specs.declared.result.Result.{Result}
-use Rattle.std.specs.declared.result.Result.the-variants.{Ok, Err}
-use Rattle.field.specs.declared.refusal.Refusal.{Refusal}
 use Rattle.field.specs.declared.window.Window.{Window}
-use Rattle.field.specs.Refusals.{number-of, by-number, question, first-no}
+use Rattle.field.specs.Refusals.{question, first-no}
 use Rattle.theory.specs.declared.span.Span.{Span}
 use Rattle.theory.specs.Method.{forbidden}
-use Rattle.reckoning.specs.Lists.{decided, mapped, told, answer, leaves}
+use Rattle.reckoning.specs.Lists.{decided, mapped, told, answer}
 use Rattle.reckoning.specs.declared.start.Start.{Start}
 use Rattle.reckoning.specs.Order.{order-told, start-of, played}
 use Rattle.reckoning.specs.Questions.{questions}

@@ -1,7 +1,7 @@
 -- What the method finds and that there is an order of play are the same.
 use mathlib.Core.Path.{_≡_, refl}
 use mathlib.Core.Bool.{true}
-use mathlib.Core.List.{List, []}
+use mathlib.Core.List.{[]}
 use Prim.Native.Nat.{ℕ}
 use native.Mathlib.Omega.{arith}
 use lib.Dec.{leb}
@@ -11,7 +11,6 @@ use Rattle.std.proofs.shelf.Signed.{ints}
 use Rattle.std.proofs.shelf.Tests.{and-parts, leb-true}
 use Rattle.theory.specs.Method.{forbidden, steps, earlies}
 use Rattle.theory.proofs.Deciding.{possible-some, some-possible}
-use Rattle.sheet.specs.declared.row.Row.{Row}
 use Rattle.sheet.specs.Content.{Content, windows-of, paced, playable, Playable}
 
 from-one : (p : ℕ) → paced p ≡ true → pos 1 ≤ℤ pos p

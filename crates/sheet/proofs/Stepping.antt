@@ -1,12 +1,12 @@
 -- Sound rows stay sound: what a step, or a group held at a time, makes of one.
-use mathlib.Core.Path.{_≡_, refl, sym, ap, subst, _∙_}
-use mathlib.Core.Bool.{Bool, true, false, cond, _&&_}
-use mathlib.Core.List.{List, [], _∷_}
+use mathlib.Core.Path.{_≡_, refl}
+use mathlib.Core.Bool.{true, false}
+use mathlib.Core.List.{List}
 use Prim.Native.Nat.{ℕ, _<_}
 use native.Mathlib.Omega.{arith}
 use lib.IntN.{ℤ}
-use lib.ListN.{length, getD}
-use lib.Signed.{_≤ℤ_, leZ}
+use lib.ListN.{length}
+use lib.Signed.{leZ}
 use Rattle.std.proofs.shelf.Signed.{ints}
 use Rattle.std.proofs.shelf.Tests.{and-parts, and-from, false≢true, ltb-true}
 use Rattle.std.specs.Results.{isOk}
@@ -16,14 +16,13 @@ use Rattle.reckoning.specs.Questions.{in-time}
 use Rattle.sheet.specs.declared.row.Row.{Row}
 use Rattle.sheet.specs.declared.row.Standing.{Standing}
 use Rattle.sheet.specs.declared.row.Standing.the-variants.{Waiting, Called, Away}
-use Rattle.sheet.specs.declared.row.Step.{Step}
 use Rattle.sheet.specs.declared.row.Step.the-variants as step
 use Rattle.sheet.specs.Standings.{counts, nobody, stood, step-by, stepped, window-by}
 use Rattle.sheet.specs.Sound.{within, kept-time, sound}
 use Rattle.sheet.specs.Calls.{made-or}
 use Rattle.sheet.specs.Content.{on, place, row}
 use Rattle.sheet.proofs.Passing.{pass-at}
-use Rattle.sheet.proofs.Soundness.{Parts, parts, sound-from, le-leZ}
+use Rattle.sheet.proofs.Soundness.{parts, sound-from, le-leZ}
 
 -- a group on the sheet has a place and a sound row
 module _ (g : ℕ) (rs : List Row) (y : on g rs ≡ true) where

@@ -9,12 +9,11 @@ use Rattle.std.specs.shelf.Lists.{All}
 use Rattle.std.specs.declared.option.Option.{Option}
 use Rattle.std.specs.declared.option.Option.the-variants.{Some, None}
 use Rattle.std.specs.declared.result.Result.{Result}
-use Rattle.std.specs.declared.result.Result.the-variants.{Ok, Err}
 use Rattle.std.proofs.shelf.Tests.{both-ways, cond-false}
 use Rattle.field.specs.declared.refusal.Refusal.{Refusal}
 use Rattle.field.specs.Refusals.{by-number, Question, question, first-no}
 use Rattle.sheet.specs.declared.row.Step.the-variants as step
-use Rattle.sheet.specs.Content.{Content, paced, playable, Playable}
+use Rattle.sheet.specs.Content.{Content, paced, playable}
 use Rattle.sheet.specs.Calls.{Call, Enter, Change, Pace, CallUp, Through, change-made}
 use Rattle.sheet.specs.Questions.{q-pace, q-room, q-number, q-time, q-times, q-upright, q-on, q-new, q-standing, q-inside, q-list, q-order, questions, verdict, before-13, answered, Thirteen}
 use Rattle.sheet.proofs.Playing.{plays, decided}

@@ -1,6 +1,6 @@
 -- The questions that a call gets, and what they decide.
 use mathlib.Core.Path.{_≡_}
-use mathlib.Core.Bool.{Bool, not, _&&_}
+use mathlib.Core.Bool.{not, _&&_}
 use mathlib.Core.List.{List, [], _∷_}
 use Prim.Native.Nat.{ℕ}
 use lib.Dec.{ltb, leb}
@@ -13,7 +13,6 @@ use Rattle.std.specs.declared.option.Option.the-variants.{Some, None}
 use Rattle.std.specs.declared.result.Result.{Result}
 use Rattle.std.specs.declared.result.Result.the-variants.{Ok, Err}
 use Rattle.std.specs.shelf.Lists.{kept-by}
-use Rattle.field.specs.declared.window.Window.{Window}
 use Rattle.field.specs.declared.refusal.Refusal.{Refusal}
 use Rattle.field.specs.Refusals.{by-number, Question, question, first-no}
 use Rattle.reckoning.specs.Questions.{in-time}
@@ -22,7 +21,7 @@ use Rattle.sheet.specs.declared.row.Step.{Step}
 use Rattle.sheet.specs.declared.row.Step.the-variants as step
 use Rattle.sheet.specs.Standings.{counts, stepped}
 use Rattle.sheet.specs.Sound.{numbered, within}
-use Rattle.sheet.specs.Content.{Content, place, on, row, paced, playable, Playable}
+use Rattle.sheet.specs.Content.{Content, on, row, paced, playable, Playable}
 use Rattle.sheet.specs.Calls.{Call, Enter, Change, Withdraw, Pace, CallUp, StandDown, SendAway, Order, Through, Spans, change-made}
 
 -- 3: is the pace 1 to 3,600?

@@ -1,5 +1,4 @@
 -- Rows: the window that counts, and what each standing allows.
-use mathlib.Core.List.{List, map}
 use Prim.Native.Nat.{ℕ}
 use lib.IntN.{ℤ, pos}
 use Rattle.std.specs.declared.result.Result.{Result}

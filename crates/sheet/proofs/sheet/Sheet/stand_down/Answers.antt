@@ -1,13 +1,7 @@
-use borrow.Author.Needs.{needs}
-use mathlib.Core.Path.{_≡_, refl}
-use Prim.Native.Nat.{ℕ}
+use mathlib.Core.Path.{refl}
 use lib.ListN.{set}
-use Rattle.std.specs.declared.result.Result.{Result}
-use Rattle.std.specs.declared.result.Result.the-variants.{Ok}
-use Rattle.sheet.specs.declared.row.Row.{Row}
 use Rattle.sheet.specs.declared.row.Step.the-variants as step
 use Rattle.sheet.specs.Calls.{StandDown, change-made, stepped-at}
-use Rattle.sheet.specs.Questions.{answered, verdict}
 use Rattle.sheet.specs.Sheets.{content}
 use Rattle.sheet.proofs.Keeping.{kept-by-sheet, owed, stand-down-keeps}
 use Rattle.sheet.proofs.Outcomes.{passes}

@@ -1,9 +1,7 @@
 use borrow.Author.Needs.{needs}
 use mathlib.Core.Path.{_≡_, refl, ap, _∙_}
-use Prim.Native.Nat.{ℕ}
 use Rattle.std.specs.Holes.{removed}
 use Rattle.std.specs.declared.result.Result.the-variants.{Err}
-use Rattle.sheet.specs.declared.row.Row.{Row}
 use Rattle.sheet.specs.declared.row.Step.the-variants as step
 use Rattle.sheet.specs.Calls.{Withdraw, change-made, stepped-at, with-rows}
 use Rattle.sheet.specs.Sheets.{content}
