@@ -120,7 +120,7 @@ fn play(windows: &[Window], pace: i64, found: &[Span], out: &mut [Played]) -> us
 {
     let mut groups = [Group {
         place: 0,
-        win: Window { early: 0, late: 0 },
+        win: Window::outside(),
     }; 64];
     number(windows, &mut groups);
     let mut left = windows.len();

@@ -33,7 +33,7 @@ fn gather<F: Field>(field: &F) -> Windows
     requires { ⌜ length (F·Field .windows (now field)) ≤ 64 ⌝ }
     ensures { λ r. ⌜ take (r .len) (r .list) ≡ F·Field .windows (now (field .entry)) ⌝ }
 {
-    let mut list = [Window { early: 0, late: 0 }; 64];
+    let mut list = [Window::outside(); 64];
     let len = field.count();
     for place in 0..len {
         list[place] = window_at(field, place);
