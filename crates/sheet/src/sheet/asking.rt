@@ -66,6 +66,7 @@ impl Sheet {
         Ok((place, row))
     }
 
+    /// Whether another pace may be set.
     pub(super) fn ask_pace(&self, pace: u16) -> Result<(), Refusal>
         ensures { λ r. ⌜ by-number r ≡ answered (verdict (content (now (self .entry))) (Pace pace) 0) tt ⌝ }
     {

@@ -1,4 +1,4 @@
-//! Whether what the sheet would hold has an order of play. A change is tried on a field, never on the sheet.
+//! Tries a change: whether what the sheet would hold has an order of play. It is tried on a field, never on the sheet.
 
 ghost use Prim.Native.Nat.{_<_, _≤_};
 ghost use Rattle.sheet.specs.Content.{paced, playable};
@@ -18,7 +18,7 @@ use field::HeldField;
 use reckoning::possible::possible;
 
 impl Sheet {
-    /// With the rows as they stand, at another pace.
+    /// Whether the rows have an order of play at another pace.
     pub(super) fn plays_at(&self, pace: u16) -> bool
         requires { ⌜ paced pace ≡ true ⌝ }
         ensures { λ r. ⌜ r ≡ playable (content (now (self .entry)) .rows) pace ⌝ }
@@ -26,7 +26,7 @@ impl Sheet {
         possible(&self.rows(), pace).is_ok()
     }
 
-    /// With another row at a place.
+    /// Whether the rows have one with another row at a place.
     pub(super) fn plays_with(&self, place: usize, row: Row) -> bool
         requires { ⌜ sound row ≡ true ⌝ }
         ensures { λ r. ⌜ r ≡ playable (set (content (now (self .entry)) .rows) place row) (content (now (self .entry)) .pace) ⌝ }
@@ -35,7 +35,7 @@ impl Sheet {
         possible(&Held::new(self.rows(), place, early, late), self.pace).is_ok()
     }
 
-    /// With one more row at a place.
+    /// Whether the rows have one with one more row at a place.
     pub(super) fn plays_also(&self, place: usize, row: Row) -> bool
         requires inside { ⌜ place ≤ length (content (now self) .rows) ⌝ }
         requires room { ⌜ length (content (now self) .rows) < 64 ⌝ }

@@ -1,3 +1,5 @@
+//! The rows of a table by place and by number.
+
 ghost use Prim.Native.Nat.{_<_, _≤_};
 ghost use Rattle.field.specs.Refusals.{by-number};
 ghost use Rattle.sheet.specs.Content.{on, place as place-of, place-for};
@@ -16,6 +18,7 @@ ghost use lib.ListN.{getD};
 ghost use mathlib.Core.Bool.{cond};
 ghost use mathlib.Core.List.{[]};
 ghost use mathlib.Core.Path.{_≡_};
+use crate::bounds::MOST_GROUPS;
 use crate::row::Row;
 use crate::table::Table;
 use field::Refusal;
@@ -23,11 +26,11 @@ use std::alloc::AllocError;
 use std::alloc::Global;
 
 impl Table {
-    /// No rows, and memory for 64.
+    /// No rows, and memory for as many as a sheet holds.
     pub fn empty(heap: Global) -> Result<Table, AllocError>
         ensures { λ r. ⌜ made r (λ t. vec-items (t .rows) ≡ []) ⌝ }
     {
-        let rows = Vec::with_capacity(heap, 64)?;
+        let rows = Vec::with_capacity(heap, MOST_GROUPS)?;
         Ok(Table { rows })
     }
 
