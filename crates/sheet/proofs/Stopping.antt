@@ -32,6 +32,10 @@ no-later (q ∷ qs) more e = go (q .yes) e (λ d. no-later qs more d)
     go true d ih = ih d
     go false d ih = let z : _≡_ {A = ℕ} 0 1 = cc in absurd (omega arith)
 
+-- a yes goes on to the next question
+pub yes-then : (q : Question) (qs : List Question) → q .yes ≡ true → first-no qs ≡ None → first-no (q ∷ qs) ≡ None
+yes-then q qs e rest = cond-true (q .yes) (first-no qs) (Some (q .number)) e ∙ rest
+
 -- the last question decides, once the others are passed
 module _ {X : Type 0} (ps : List Question) (n : ℕ) (b : Bool) (x : X) (none : first-no ps ≡ None) where
   pub last-no : b ≡ false → _≡_ {A = Result X ℕ} (Err n) (answered (first-no (ps ++ question n b ∷ [])) x)

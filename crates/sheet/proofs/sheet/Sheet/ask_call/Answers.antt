@@ -1,11 +1,14 @@
 use borrow.Author.Needs.{needs}
-use mathlib.Core.Path.{_≡_, sym, ap, _∙_}
-use mathlib.Core.Bool.{Bool, true}
+use mathlib.Core.Path.{_≡_, refl, sym, ap, subst, _∙_}
+use mathlib.Core.Bool.{true}
 use mathlib.Core.List.{[], _∷_}
-use native.Mathlib.Omega.{arith}
 use lib.ListN.{set}
+use mir.Syntax.{w32}
+use mir.Val.{toZ, ofZ}
 use Rattle.std.specs.declared.option.Option.the-variants.{None}
-use Rattle.field.specs.Refusals.{question, first-no}
+use Rattle.std.specs.declared.result.Result.{Result}
+use Rattle.std.specs.declared.result.Result.the-variants.{Ok}
+use Rattle.field.specs.Refusals.{first-no}
 use Prim.Native.Nat.{ℕ}
 use lib.IntN.{ℤ}
 use Rattle.std.specs.Results.{isOk}
@@ -15,11 +18,12 @@ use Rattle.sheet.specs.declared.sheet.Sheet.{Sheet}
 use Rattle.sheet.specs.declared.row.Step.the-variants as step
 use Rattle.sheet.specs.Calls.{made-or, step-of, stepped-at}
 use Rattle.sheet.specs.Content.{on, place, playable, row}
-use Rattle.sheet.specs.Questions.{q-time, q-on, q-standing, q-inside}
+use Rattle.sheet.specs.Questions.{answered, q-time, q-on, q-standing, q-inside}
 use Rattle.sheet.specs.Sheets.{content}
 use Rattle.sheet.specs.Sound.{sound, within}
 use Rattle.sheet.specs.Standings.{counts, stepped}
-use Rattle.sheet.proofs.Stopping.{last-no, last-yes}
+use Rattle.sheet.proofs.Keeping.{all-yes}
+use Rattle.sheet.proofs.Stopping.{last-no, last-yes, passed, yes-then}
 use Rattle.sheet.proofs.Stepping.{sound-row, called-sound}
 use Rattle.sheet.proofs.sheet.Sheet.ask_call.Needs as need
 use Rattle.sheet.proofs.sheet.Sheet.ask_call.Needs.{Else-not-is-within}
@@ -38,23 +42,28 @@ known c =
     let rs = content (c .args .self .now) .rows in
     let g = c .args .number in
     let t = c .args .time in
-    let r = row g rs in
-    let at : c .in-Continue-place .place ≡ place g rs = search needs in
+    let x : toZ w32 (ofZ w32 t) ≡ t = search needs in
+    let new : ℕ × Row = (c .in-Continue-place .place, c .in-Continue-place .row) in
+    let stepped = subst (λ (u : ℤ). _≡_ {A = Result (ℕ × Row) ℕ} (Ok new) (answered (first-no (q-on g rs ∷ q-standing g (step.CallUp u) rs ∷ [])) (stepped-at g (step.CallUp u) rs))) x (c .in-Continue-place .ensures tt) in
+    let p = passed (first-no (q-on g rs ∷ q-standing g (step.CallUp t) rs ∷ [])) (stepped-at g (step.CallUp t) rs) new stepped in
+    let v = all-yes (q-on g rs ∷ q-standing g (step.CallUp t) rs ∷ []) (p .0) in
+    let at = ap (λ (z : ℕ × Row). z .0) (p .1) in
     record {
       six = search needs;
-      eight = search needs;
-      ten = search needs;
+      eight = v .0;
+      ten = v .1 .0;
       eleven = search needs;
       at = at;
-      same = search needs;
+      same = ap (λ (z : ℕ × Row). z .1) (p .1);
     }
 
 -- the questions before 13 are passed
 asked : (s : Sheet) (g : ℕ) (t : ℤ) (i : ℕ) (r : Row) → Known s g t i r → first-no (q-time t ∷ q-on g (content s .rows) ∷ q-standing g (step.CallUp t) (content s .rows) ∷ q-inside g t (content s .rows) ∷ []) ≡ None
-asked s g t i r k = four-yes _ _ _ _ (k .six) (k .eight) (k .ten) (k .eleven)
-  where
-    four-yes : (a b c d : Bool) → a ≡ true → b ≡ true → c ≡ true → d ≡ true → first-no (question 6 a ∷ question 8 b ∷ question 10 c ∷ question 11 d ∷ []) ≡ None
-    four-yes a b c d h i j l = grind arith
+asked s g t i r k =
+    let rs = content s .rows in
+    let inside = yes-then (q-inside g t rs) [] (k .eleven) refl in
+    let stands = yes-then (q-standing g (step.CallUp t) rs) (q-inside g t rs ∷ []) (k .ten) inside in
+    yes-then (q-time t) (q-on g rs ∷ q-standing g (step.CallUp t) rs ∷ q-inside g t rs ∷ []) (k .six) (yes-then (q-on g rs) (q-standing g (step.CallUp t) rs ∷ q-inside g t rs ∷ []) (k .eight) stands)
 
 -- what was tried is the change made
 tried : (s : Sheet) (g : ℕ) (t : ℤ) (i : ℕ) (r : Row) → Known s g t i r → playable (set (content s .rows) i r) (s .pace) ≡ playable (step-of g (step.CallUp t) (content s .rows)) (s .pace)

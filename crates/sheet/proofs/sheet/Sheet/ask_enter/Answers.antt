@@ -1,10 +1,12 @@
 use borrow.Author.Needs.{needs}
-use mathlib.Core.Path.{_≡_}
+use mathlib.Core.Path.{_≡_, refl, sym}
 use mathlib.Core.List.{[], _∷_}
-use Prim.Native.Nat.{ℕ}
+use Prim.Native.Nat.{ℕ, _<_}
+use native.Mathlib.Omega.{arith}
+use lib.ListN.{length}
+use Rattle.std.proofs.shelf.Tests.{lt-ltb}
 use mir.Syntax.{w32}
 use mir.Val.{toZ, ofZ}
-use Rattle.std.specs.declared.option.Option.the-variants.{None}
 use Rattle.std.specs.declared.result.Result.{Result}
 use Rattle.std.specs.declared.result.Result.the-variants.{Err}
 use Rattle.field.specs.Refusals.{number-of, first-no}
@@ -12,7 +14,7 @@ use Rattle.sheet.specs.Calls.{Enter, change-made}
 use Rattle.sheet.specs.Content.{place-for}
 use Rattle.sheet.specs.Questions.{answered, q-room, q-number, q-times, q-upright, q-new, q-order}
 use Rattle.sheet.specs.Sheets.{content}
-use Rattle.sheet.proofs.Stopping.{stops, of-both}
+use Rattle.sheet.proofs.Stopping.{stops, of-both, yes-then}
 use Rattle.sheet.proofs.sheet.Sheet.ask_enter.Needs as need
 
 pub returns-in-Break-ask-window : need.returns-in-Break-ask-window
@@ -22,7 +24,9 @@ returns-in-Break-ask-window c =
     let e = c .args .early in
     let l = c .args .late in
     let q = c .in-Break-ask-window .field-0 .0 in
-    let none : first-no (q-room (k .rows) ∷ q-number g ∷ []) ≡ None = search needs in
+    let n = c .count .ensures in
+    let few : length (k .rows) < 64 = omega (arith, c .if-count-ge-MOST-GROUPS .left) in
+    let none = yes-then (q-room (k .rows)) (q-number g ∷ []) (lt-ltb (length (k .rows)) 64 few) (yes-then (q-number g) [] (sym (c .if-not-is-number .ensures tt)) refl) in
     let i : c .from-residual .result ≡ Err q = search needs in
     let x : toZ w32 (ofZ w32 e) ≡ e = search needs in
     let y : toZ w32 (ofZ w32 l) ≡ l = search needs in

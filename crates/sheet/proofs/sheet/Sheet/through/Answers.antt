@@ -3,7 +3,7 @@ use denote.Ref.{now}
 use mathlib.Core.Path.{_≡_, refl, sym, ap, subst, _∙_}
 use mathlib.Core.List.{List, [], _∷_}
 use Prim.Native.Nat.{ℕ}
-use lib.IntN.{pos}
+use lib.IntN.{ℤ, pos}
 use lib.ListN.{length, take}
 use mir.Syntax.{w32}
 use mir.Val.{toZ, ofZ}
@@ -42,7 +42,8 @@ returns-in-Break-place c =
     let r = c .from-residual .result in
     let q = c .in-Break-place .field-0 .0 in
     let i : r ≡ Err q = search needs in
-    let no : _≡_ {A = Result ℕ ℕ} (Err (number-of q)) (answered (first-no (q-time t ∷ q-on g (k .rows) ∷ q-inside g t (k .rows) ∷ [])) (place g (k .rows))) = search needs in
+    let x : toZ w32 (ofZ w32 t) ≡ t = search needs in
+    let no = subst (λ (u : ℤ). _≡_ {A = Result ℕ ℕ} (Err (number-of q)) (answered (first-no (q-time u ∷ q-on g (k .rows) ∷ q-inside g u (k .rows) ∷ [])) (place g (k .rows)))) x (c .in-Break-place .ensures tt) in
     let said = stops [] (q-time t ∷ q-on g (k .rows) ∷ q-inside g t (k .rows) ∷ []) (q-list room (k .rows) ∷ q-order new ∷ []) r q (length xs) (place g (k .rows)) refl i no in
     let v = refused-by (verdict k (Through g t) room) (length xs) (number-of q) (sym (ap by-number i) ∙ said) in
     record {
@@ -64,10 +65,10 @@ returns c =
     let room = length before in
     let new = change-made (Through g t) k in
     let xs = order-of new in
-    let yes : _≡_ {A = Result ℕ ℕ} (Ok (c .in-Continue-place .place)) (answered (first-no (q-time t ∷ q-on g rs ∷ q-inside g t rs ∷ [])) (place g rs)) = search needs in
+    let x : toZ w32 (ofZ w32 t) ≡ t = search needs in
+    let yes = subst (λ (u : ℤ). _≡_ {A = Result ℕ ℕ} (Ok (c .in-Continue-place .place)) (answered (first-no (q-time u ∷ q-on g rs ∷ q-inside g u rs ∷ [])) (place g rs))) x (c .in-Continue-place .ensures tt) in
     let p = passed (first-no (q-time t ∷ q-on g rs ∷ q-inside g t rs ∷ [])) (place g rs) (c .in-Continue-place .place) yes in
     let h = c .new .ensures in
-    let x : toZ w32 (ofZ w32 t) ≡ t = search needs in
     let below = ap (λ (z : Rows). now (z .rows)) (h .0) ∙ c .rows .ensures .rows in
     let windows = held-windows rs _ (place g rs) _ (stood (row g rs) (Called t)) _ _ below (h .1 ∙ p .1) (h .2 ∙ x) (h .3 ∙ x) in
     let told = held-listed k (kept-by-sheet s) (few s) g t room (p .0) _ _ windows (ap numbers-of below) in
