@@ -23,5 +23,6 @@ kept-time Waiting e l = true
 kept-time (Called t) e l = within e l t
 kept-time (Away t) e l = within e l t
 
+-- a row that may stand on a sheet: its number and its times in range, early at most late
 abbrev pub sound : Row → Bool
 sound r = numbered (r .number) && in-time (r .early) && in-time (r .late) && leZ (r .early) (r .late) && kept-time (r .standing) (r .early) (r .late)

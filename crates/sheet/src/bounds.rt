@@ -11,22 +11,27 @@ pub const MOST_GROUPS: usize = 64;
 /// The furthest time from the announced first start, in seconds.
 const FURTHEST: i32 = 86_400;
 
+/// The highest number of a group; the lowest is 1.
 const HIGHEST_NUMBER: u16 = 9_999;
 
+/// The longest pace, in seconds; the shortest is 1.
 const LONGEST_PACE: u16 = 3_600;
 
+/// Whether a time is one that a sheet takes.
 pub fn is_in_time(time: i32) -> bool
     ensures { λ r. ⌜ r ≡ in-time time ⌝ }
 {
     -FURTHEST <= time && time <= FURTHEST
 }
 
+/// Whether a number is one that a group may have.
 pub fn is_number(number: u16) -> bool
     ensures { λ r. ⌜ r ≡ numbered number ⌝ }
 {
     1 <= number && number <= HIGHEST_NUMBER
 }
 
+/// Whether a pace is one that a sheet may have.
 pub fn is_pace(pace: u16) -> bool
     ensures { λ r. ⌜ r ≡ paced pace ⌝ }
 {

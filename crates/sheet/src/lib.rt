@@ -1,4 +1,7 @@
-//! A start sheet: the groups that are to start at one tee, and the calls that change it.
+//! A start sheet: the groups that are to start at one tee, and the calls on it.
+//!
+//! `Sheet` is the sheet, `Row` with its `Standing` a group on it, and `Rows` its rows as a field, on
+//! which layers stand.
 
 mod bounds;
 mod one_more;
