@@ -4,8 +4,8 @@ use mathlib.Core.Bool.{true}
 use mathlib.Core.List.{[], _∷_}
 use lib.ListN.{set}
 use mir.Syntax.{w32}
-use mir.Val.{toZ, ofZ}
 use Rattle.std.specs.declared.option.Option.the-variants.{None}
+use Rattle.std.proofs.shelf.Signed.{toZ-ofZ}
 use Rattle.std.specs.declared.result.Result.{Result}
 use Rattle.std.specs.declared.result.Result.the-variants.{Ok}
 use Rattle.field.specs.Refusals.{first-no}
@@ -42,7 +42,7 @@ known c =
     let rs = content (c .args .self .now) .rows in
     let g = c .args .number in
     let t = c .args .time in
-    let x : toZ w32 (ofZ w32 t) ≡ t = search needs in
+    let x = toZ-ofZ w32 t (c .fits .time) in
     let new : ℕ × Row = (c .in-Continue-place .place, c .in-Continue-place .row) in
     let stepped = subst (λ (u : ℤ). _≡_ {A = Result (ℕ × Row) ℕ} (Ok new) (answered (first-no (q-on g rs ∷ q-standing g (step.CallUp u) rs ∷ [])) (stepped-at g (step.CallUp u) rs))) x (c .in-Continue-place .ensures tt) in
     let p = passed (first-no (q-on g rs ∷ q-standing g (step.CallUp t) rs ∷ [])) (stepped-at g (step.CallUp t) rs) new stepped in

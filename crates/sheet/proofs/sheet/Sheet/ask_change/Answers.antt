@@ -1,10 +1,9 @@
-use borrow.Author.Needs.{needs}
 use mathlib.Core.Path.{_≡_, ap, _∙_}
 use mathlib.Core.List.{[], _∷_}
 use Prim.Native.Nat.{ℕ}
 use mir.Syntax.{w32}
-use mir.Val.{toZ, ofZ}
 use Rattle.std.proofs.shelf.Tests.{and-parts}
+use Rattle.std.proofs.shelf.Signed.{toZ-ofZ}
 use Rattle.std.specs.declared.result.Result.{Result}
 use Rattle.std.specs.declared.result.Result.the-variants.{Ok}
 use Rattle.field.specs.Refusals.{first-no}
@@ -28,8 +27,8 @@ plays-with-requires c κs =
     let g = c .args .number in
     let e = c .args .early in
     let l = c .args .late in
-    let x : toZ w32 (ofZ w32 e) ≡ e = search needs in
-    let y : toZ w32 (ofZ w32 l) ≡ l = search needs in
+    let x = toZ-ofZ w32 e (c .fits .early) in
+    let y = toZ-ofZ w32 l (c .fits .late) in
     let window = of-both (λ d k. _≡_ {A = Result (Unit {0}) ℕ} (Ok tt) (answered (first-no (q-times d k ∷ q-upright d k ∷ [])) tt)) _ e _ l x y (c .in-Continue-ask-window .ensures tt) in
     let w = all-yes (q-times e l ∷ q-upright e l ∷ []) (passed (first-no (q-times e l ∷ q-upright e l ∷ [])) tt tt window .0) in
     let times = and-parts (in-time e) (in-time l) (w .0) in

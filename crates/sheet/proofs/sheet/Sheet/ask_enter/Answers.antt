@@ -6,7 +6,7 @@ use native.Mathlib.Omega.{arith}
 use lib.ListN.{length}
 use Rattle.std.proofs.shelf.Tests.{lt-ltb}
 use mir.Syntax.{w32}
-use mir.Val.{toZ, ofZ}
+use Rattle.std.proofs.shelf.Signed.{toZ-ofZ}
 use Rattle.std.specs.declared.result.Result.{Result}
 use Rattle.std.specs.declared.result.Result.the-variants.{Err}
 use Rattle.field.specs.Refusals.{number-of, first-no}
@@ -28,7 +28,7 @@ returns-in-Break-ask-window c =
     let few : length (k .rows) < 64 = omega (arith, c .if-count-ge-MOST-GROUPS .left) in
     let none = yes-then (q-room (k .rows)) (q-number g ∷ []) (lt-ltb (length (k .rows)) 64 few) (yes-then (q-number g) [] (sym (c .if-not-is-number .ensures tt)) refl) in
     let i : c .from-residual .result ≡ Err q = search needs in
-    let x : toZ w32 (ofZ w32 e) ≡ e = search needs in
-    let y : toZ w32 (ofZ w32 l) ≡ l = search needs in
+    let x = toZ-ofZ w32 e (c .fits .early) in
+    let y = toZ-ofZ w32 l (c .fits .late) in
     let no = of-both (λ d k. _≡_ {A = Result (Unit {0}) ℕ} (Err (number-of q)) (answered (first-no (q-times d k ∷ q-upright d k ∷ [])) tt)) _ e _ l x y (c .in-Break-ask-window .ensures tt) in
     stops (q-room (k .rows) ∷ q-number g ∷ []) (q-times e l ∷ q-upright e l ∷ []) (q-new g (k .rows) ∷ q-order (change-made (Enter g e l) k) ∷ []) _ q (place-for g (k .rows)) tt none i no

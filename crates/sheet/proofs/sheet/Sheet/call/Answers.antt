@@ -1,8 +1,11 @@
 use borrow.Author.Needs.{needs}
-use mathlib.Core.Path.{_≡_, refl, ap}
+use mathlib.Core.Path.{_≡_, refl, ap, subst}
 use Prim.Native.Nat.{ℕ}
 use native.Mathlib.Omega.{arith}
+use lib.IntN.{ℤ}
 use lib.ListN.{set}
+use mir.Syntax.{w32}
+use Rattle.std.proofs.shelf.Signed.{toZ-ofZ}
 use Rattle.std.specs.declared.result.Result.{Result}
 use Rattle.std.specs.declared.result.Result.the-variants.{Ok, Err}
 use Rattle.field.specs.Refusals.{number-of}
@@ -24,7 +27,8 @@ said c =
     let k = content (c .args .self .now) in
     let g = c .args .number in
     let t = c .args .time in
-    let yes : _≡_ {A = Result (ℕ × Row) ℕ} (Ok (c .in-Continue-place .place, c .in-Continue-place .row)) (answered (verdict k (CallUp g t) 0) (stepped-at g (step.CallUp t) (k .rows))) = search needs in
+    let x = toZ-ofZ w32 t (c .fits .time) in
+    let yes = subst (λ (u : ℤ). _≡_ {A = Result (ℕ × Row) ℕ} (Ok (c .in-Continue-place .place, c .in-Continue-place .row)) (answered (verdict k (CallUp g u) 0) (stepped-at g (step.CallUp u) (k .rows)))) x (c .in-Continue-place .ensures tt) in
     passes k (CallUp g t) (stepped-at g (step.CallUp t) (k .rows)) (c .in-Continue-place .place, c .in-Continue-place .row) yes
 
 pub returns-in-Break-place : need.returns-in-Break-place
@@ -35,7 +39,8 @@ returns-in-Break-place c =
     let t = c .args .time in
     let q = c .in-Break-place .field-0 .0 in
     let i : c .from-residual .result ≡ Err q = search needs in
-    let no : _≡_ {A = Result (ℕ × Row) ℕ} (Err (number-of q)) (answered (verdict k (CallUp g t) 0) (stepped-at g (step.CallUp t) (k .rows))) = search needs in
+    let x = toZ-ofZ w32 t (c .fits .time) in
+    let no = subst (λ (u : ℤ). _≡_ {A = Result (ℕ × Row) ℕ} (Err (number-of q)) (answered (verdict k (CallUp g u) 0) (stepped-at g (step.CallUp u) (k .rows)))) x (c .in-Break-place .ensures tt) in
     let o = refusal k (CallUp g t) (stepped-at g (step.CallUp t) (k .rows)) (c .from-residual .result) q i no in
     record { answer = o .answer; held = o .held; number = refl; thirteen = call-13 k (s .steady) (c .from-residual .result) tt g t (o .answer) }
 

@@ -2,6 +2,8 @@ use borrow.Author.Needs.{needs}
 use mathlib.Core.Path.{_≡_, refl}
 use Prim.Native.Nat.{ℕ}
 use lib.ListN.{set}
+use mir.Syntax.{w32}
+use Rattle.std.proofs.shelf.Signed.{toZ-ofZ}
 use Rattle.std.specs.declared.result.Result.{Result}
 use Rattle.std.specs.declared.result.Result.the-variants.{Ok, Err}
 use Rattle.field.specs.Refusals.{number-of}
@@ -12,6 +14,7 @@ use Rattle.sheet.specs.Questions.{answered, verdict}
 use Rattle.sheet.specs.Sheets.{content}
 use Rattle.sheet.proofs.Keeping.{kept-by-sheet, owed, change-keeps}
 use Rattle.sheet.proofs.Outcomes.{Passed, passes, refusal, success}
+use Rattle.sheet.proofs.Stopping.{of-both}
 use Rattle.sheet.proofs.Thirteen.{change-13}
 use Rattle.sheet.proofs.sheet.Sheet.change.Needs as need
 use Rattle.sheet.proofs.sheet.Sheet.change.Needs.{In-Continue-place}
@@ -23,7 +26,9 @@ said c =
     let g = c .args .number in
     let e = c .args .early in
     let l = c .args .late in
-    let yes : _≡_ {A = Result (ℕ × Row) ℕ} (Ok (c .in-Continue-place .place, c .in-Continue-place .row)) (answered (verdict k (Change g e l) 0) (stepped-at g (step.Change e l) (k .rows))) = search needs in
+    let x = toZ-ofZ w32 e (c .fits .early) in
+    let y = toZ-ofZ w32 l (c .fits .late) in
+    let yes = of-both (λ d m. _≡_ {A = Result (ℕ × Row) ℕ} (Ok (c .in-Continue-place .place, c .in-Continue-place .row)) (answered (verdict k (Change g d m) 0) (stepped-at g (step.Change d m) (k .rows)))) _ e _ l x y (c .in-Continue-place .ensures tt) in
     passes k (Change g e l) (stepped-at g (step.Change e l) (k .rows)) (c .in-Continue-place .place, c .in-Continue-place .row) yes
 
 pub returns-in-Break-place : need.returns-in-Break-place
@@ -35,7 +40,9 @@ returns-in-Break-place c =
     let l = c .args .late in
     let q = c .in-Break-place .field-0 .0 in
     let i : c .from-residual .result ≡ Err q = search needs in
-    let no : _≡_ {A = Result (ℕ × Row) ℕ} (Err (number-of q)) (answered (verdict k (Change g e l) 0) (stepped-at g (step.Change e l) (k .rows))) = search needs in
+    let x = toZ-ofZ w32 e (c .fits .early) in
+    let y = toZ-ofZ w32 l (c .fits .late) in
+    let no = of-both (λ d m. _≡_ {A = Result (ℕ × Row) ℕ} (Err (number-of q)) (answered (verdict k (Change g d m) 0) (stepped-at g (step.Change d m) (k .rows)))) _ e _ l x y (c .in-Break-place .ensures tt) in
     let o = refusal k (Change g e l) (stepped-at g (step.Change e l) (k .rows)) (c .from-residual .result) q i no in
     record { answer = o .answer; held = o .held; number = refl; thirteen = change-13 k (s .steady) (c .from-residual .result) tt g e l (o .answer) }
 

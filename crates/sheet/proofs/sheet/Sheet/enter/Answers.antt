@@ -3,11 +3,11 @@ use mathlib.Core.Path.{_≡_, refl, ap, _∙_}
 use Prim.Native.Nat.{ℕ}
 use native.Mathlib.Omega.{arith}
 use mir.Syntax.{w32}
-use mir.Val.{toZ, ofZ}
 use lib.Dec.{ltb}
 use lib.ListN.{length}
 use Rattle.std.proofs.shelf.Tests.{ltb-true}
 use Rattle.std.specs.Holes.{inserted}
+use Rattle.std.proofs.shelf.Signed.{toZ-ofZ}
 use Rattle.std.specs.declared.result.Result.{Result}
 use Rattle.std.specs.declared.result.Result.the-variants.{Ok, Err}
 use Rattle.field.specs.Refusals.{number-of}
@@ -20,6 +20,7 @@ use Rattle.sheet.specs.Standings.{waiting}
 use Rattle.sheet.proofs.Keeping.{all-yes, kept-by-sheet, owed, enter-keeps}
 use Rattle.sheet.proofs.Outcomes.{Passed, passes, refusal, success}
 use Rattle.sheet.proofs.Searching.{first-inside}
+use Rattle.sheet.proofs.Stopping.{of-both}
 use Rattle.sheet.proofs.Thirteen.{enter-13}
 use Rattle.sheet.proofs.sheet.Sheet.enter.Needs as need
 use Rattle.sheet.proofs.sheet.Sheet.enter.Needs.{In-Continue-place}
@@ -33,7 +34,9 @@ returns-in-Break-place c =
     let l = c .args .late in
     let q = c .in-Break-place .field-0 .0 in
     let i : c .from-residual .result ≡ Err q = search needs in
-    let no : _≡_ {A = Result ℕ ℕ} (Err (number-of q)) (answered (verdict k (Enter g e l) 0) (place-for g (k .rows))) = search needs in
+    let x = toZ-ofZ w32 e (c .fits .early) in
+    let y = toZ-ofZ w32 l (c .fits .late) in
+    let no = of-both (λ d m. _≡_ {A = Result ℕ ℕ} (Err (number-of q)) (answered (verdict k (Enter g d m) 0) (place-for g (k .rows)))) _ e _ l x y (c .in-Break-place .ensures tt) in
     let o = refusal k (Enter g e l) (place-for g (k .rows)) (c .from-residual .result) q i no in
     record { answer = o .answer; held = o .held; number = refl; thirteen = enter-13 k (s .steady) (c .from-residual .result) tt g e l (o .answer) }
 
@@ -44,7 +47,9 @@ said c =
     let g = c .args .number in
     let e = c .args .early in
     let l = c .args .late in
-    let yes : _≡_ {A = Result ℕ ℕ} (Ok (c .in-Continue-place .place)) (answered (verdict k (Enter g e l) 0) (place-for g (k .rows))) = search needs in
+    let x = toZ-ofZ w32 e (c .fits .early) in
+    let y = toZ-ofZ w32 l (c .fits .late) in
+    let yes = of-both (λ d m. _≡_ {A = Result ℕ ℕ} (Ok (c .in-Continue-place .place)) (answered (verdict k (Enter g d m) 0) (place-for g (k .rows)))) _ e _ l x y (c .in-Continue-place .ensures tt) in
     passes k (Enter g e l) (place-for g (k .rows)) (c .in-Continue-place .place) yes
 
 pub insert-requires : need.insert-requires
@@ -67,8 +72,8 @@ ghost-self c =
     let e = c .args .early in
     let l = c .args .late in
     let p = said (need.at·ghost-self c .In-Continue-place) in
-    let x : toZ w32 (ofZ w32 e) ≡ e = search needs in
-    let y : toZ w32 (ofZ w32 l) ≡ l = search needs in
+    let x = toZ-ofZ w32 e (c .fits .early) in
+    let y = toZ-ofZ w32 l (c .fits .late) in
     let new = c .waiting .ensures ∙ (λ j. waiting g (x j) (y j)) in
     let rows = c .insert .ensures ∙ (λ j. inserted (k .rows) (p .value j) (new j)) in
     owed (change-made (Enter g e l) k) (enter-keeps k (kept-by-sheet s) g e l (p .none)) _ (s .pace) rows refl
@@ -81,8 +86,8 @@ returns c =
     let e = c .args .early in
     let l = c .args .late in
     let p = said (need.at·returns c .In-Continue-place) in
-    let x : toZ w32 (ofZ w32 e) ≡ e = search needs in
-    let y : toZ w32 (ofZ w32 l) ≡ l = search needs in
+    let x = toZ-ofZ w32 e (c .fits .early) in
+    let y = toZ-ofZ w32 l (c .fits .late) in
     let new = c .waiting .ensures ∙ (λ j. waiting g (x j) (y j)) in
     let rows = c .insert .ensures ∙ (λ j. inserted (k .rows) (p .value j) (new j)) in
     let o = success k (Enter g e l) _ (p .none) (ap (with-rows k) rows) in

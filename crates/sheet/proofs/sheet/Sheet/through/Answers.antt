@@ -6,9 +6,9 @@ use Prim.Native.Nat.{ℕ}
 use lib.IntN.{ℤ, pos}
 use lib.ListN.{length, take}
 use mir.Syntax.{w32}
-use mir.Val.{toZ, ofZ}
 use Rattle.std.specs.Results.{Cases}
 use Rattle.std.specs.declared.option.Option.{Option}
+use Rattle.std.proofs.shelf.Signed.{toZ-ofZ}
 use Rattle.std.specs.declared.result.Result.{Result}
 use Rattle.std.specs.declared.result.Result.the-variants.{Ok, Err}
 use Rattle.field.specs.declared.refusal.Refusal.{Refusal}
@@ -42,7 +42,7 @@ returns-in-Break-place c =
     let r = c .from-residual .result in
     let q = c .in-Break-place .field-0 .0 in
     let i : r ≡ Err q = search needs in
-    let x : toZ w32 (ofZ w32 t) ≡ t = search needs in
+    let x = toZ-ofZ w32 t (c .fits .time) in
     let no = subst (λ (u : ℤ). _≡_ {A = Result ℕ ℕ} (Err (number-of q)) (answered (first-no (q-time u ∷ q-on g (k .rows) ∷ q-inside g u (k .rows) ∷ [])) (place g (k .rows)))) x (c .in-Break-place .ensures tt) in
     let said = stops [] (q-time t ∷ q-on g (k .rows) ∷ q-inside g t (k .rows) ∷ []) (q-list room (k .rows) ∷ q-order new ∷ []) r q (length xs) (place g (k .rows)) refl i no in
     let v = refused-by (verdict k (Through g t) room) (length xs) (number-of q) (sym (ap by-number i) ∙ said) in
@@ -65,7 +65,7 @@ returns c =
     let room = length before in
     let new = change-made (Through g t) k in
     let xs = order-of new in
-    let x : toZ w32 (ofZ w32 t) ≡ t = search needs in
+    let x = toZ-ofZ w32 t (c .fits .time) in
     let yes = subst (λ (u : ℤ). _≡_ {A = Result ℕ ℕ} (Ok (c .in-Continue-place .place)) (answered (first-no (q-time u ∷ q-on g rs ∷ q-inside g u rs ∷ [])) (place g rs))) x (c .in-Continue-place .ensures tt) in
     let p = passed (first-no (q-time t ∷ q-on g rs ∷ q-inside g t rs ∷ [])) (place g rs) (c .in-Continue-place .place) yes in
     let h = c .new .ensures in
