@@ -14,6 +14,7 @@ use field::Field;
 use field::Held;
 use field::HeldField;
 use field::Refusal;
+use field::RefusalDisplay;
 use field::Reversed;
 use field::ReversedField;
 use field::Strip;
@@ -23,6 +24,7 @@ use field::Window;
 use reckoning::Start;
 use reckoning::StartDisplay;
 use reckoning::order::order;
+use reckoning::range::range;
 use reckoning::spans::spans;
 use std::alloc::AllocError;
 use std::alloc::Global;
@@ -213,4 +215,29 @@ pub fn piles(rt: &LibcRuntime) -> io::Result<()> {
         println!(rt, "pile at {place}: {}..{}", told.early, told.late)?;
     }
     Ok(())
+}
+
+/// First and last start at each of three places, of which the last is outside.
+fn tell_ranges<F: Field>(rt: &LibcRuntime, what: &str, field: &F) -> io::Result<()> {
+    for place in 0..3 {
+        match range(field, 480, place) {
+            Err(refusal) => println!(rt, "{what} at {place}: range refused {refusal}")?,
+            Ok(range) => println!(
+                rt,
+                "{what} at {place}: range {}..{}",
+                range.first, range.last
+            )?,
+        }
+    }
+    Ok(())
+}
+
+/// First and last starts in a strip and in layers over it.
+pub fn ranges(rt: &LibcRuntime) -> io::Result<()> {
+    let bytes = strip_of(rt.alloc(), &[(0, 1000), (100, 300)])?;
+    let bytes = bytes.as_slice();
+    tell_ranges(rt, "strip", &Strip { bytes })?;
+    tell_ranges(rt, "reversed", &Reversed(Strip { bytes }))?;
+    tell_ranges(rt, "held", &Held::new(Strip { bytes }, 1, 1000, 1000))?;
+    tell_ranges(rt, "clash", &Held::new(Strip { bytes }, 0, 200, 200))
 }

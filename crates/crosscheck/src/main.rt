@@ -3,6 +3,7 @@
 mod fields;
 mod sheets;
 mod telling;
+mod trials;
 
 use std::io;
 
@@ -11,6 +12,9 @@ fn main(rt: LibcRuntime) -> io::Result<()> {
     fields::crowded(&rt)?;
     fields::short_lists(&rt)?;
     fields::piles(&rt)?;
+    fields::ranges(&rt)?;
     sheets::stories(&rt)?;
-    sheets::crowds(&rt)
+    sheets::crowds(&rt)?;
+    trials::trials(&rt)?;
+    trials::slips(&rt)
 }

@@ -1,5 +1,6 @@
 //! Examples of sheets: each call with its answer, and what the sheet holds afterwards.
 
+ghost use Rattle.crosscheck.specs.Trials.{Same-trial};
 use crate::telling::no_spans;
 use crate::telling::no_starts;
 use crate::telling::tell_list;
@@ -17,7 +18,7 @@ use theory::SpanDisplay;
 
 /// A call on a sheet. Those that write a list say how many entries it has.
 #[derive(Clone, Copy)]
-enum Act {
+pub enum Act {
     Enter(u16, i32, i32),
     Change(u16, i32, i32),
     Withdraw(u16),
@@ -28,6 +29,7 @@ enum Act {
     Order(usize),
     Through(u16, i32, usize),
     Spans(usize),
+    Range(u16),
 }
 
 impl fmt::Display for Act as ActDisplay {
@@ -45,6 +47,7 @@ impl fmt::Display for Act as ActDisplay {
                 write!(f, "through {number} at {time}, list of {room}")
             }
             Act::Spans(room) => write!(f, "spans, list of {room}"),
+            Act::Range(number) => write!(f, "range {number}"),
         }
     }
 }
@@ -150,7 +153,9 @@ const REFUSALS: [Act; 44] = [
 ];
 
 /// Makes a call that changes the sheet.
-fn change(sheet: &mut Sheet, act: Act) -> Option<Result<(), Refusal>> {
+fn change(sheet: &mut Sheet, act: Act) -> Option<Result<(), Refusal>>
+    ensures same { λ _. ⌜ Same-trial (now (sheet .entry)) (now (sheet .exit)) ⌝ }
+{
     match act {
         Act::Enter(number, early, late) => Some(sheet.enter(number, early, late)),
         Act::Change(number, early, late) => Some(sheet.change(number, early, late)),
@@ -159,7 +164,7 @@ fn change(sheet: &mut Sheet, act: Act) -> Option<Result<(), Refusal>> {
         Act::Call(number, time) => Some(sheet.call(number, time)),
         Act::StandDown(number) => Some(sheet.stand_down(number)),
         Act::Away(number) => Some(sheet.away(number)),
-        Act::Order(_) | Act::Through(..) | Act::Spans(_) => None,
+        Act::Order(_) | Act::Through(..) | Act::Spans(_) | Act::Range(_) => None,
     }
 }
 
@@ -180,6 +185,10 @@ fn look(rt: &LibcRuntime, sheet: &Sheet, act: Act) -> io::Result<()> {
             let told = spans_in(sheet, &mut spans, room);
             tell_list(rt, "spans", told, &spans)
         }
+        Act::Range(number) => match sheet.range(number) {
+            Err(refusal) => println!(rt, "  range refused {refusal}"),
+            Ok(range) => println!(rt, "  range {}..{}", range.first, range.last),
+        },
         _ => Ok(()),
     }
 }
@@ -194,7 +203,7 @@ fn tell_row(rt: &LibcRuntime, row: Row) -> io::Result<()> {
 }
 
 /// What the sheet holds.
-fn tell_held(rt: &LibcRuntime, sheet: &Sheet) -> io::Result<()> {
+pub fn tell_held(rt: &LibcRuntime, sheet: &Sheet) -> io::Result<()> {
     print!(
         rt,
         "  rows {}, pace {}",
@@ -240,7 +249,9 @@ fn spans_in(sheet: &Sheet, list: &mut [Span], room: usize) -> Result<usize, Refu
 }
 
 /// Makes a call, and tells its answer and what the sheet then holds.
-fn tell_act(rt: &LibcRuntime, sheet: &mut Sheet, act: Act) -> io::Result<()> {
+pub fn tell_act(rt: &LibcRuntime, sheet: &mut Sheet, act: Act) -> io::Result<()>
+    ensures same { λ _. ⌜ Same-trial (now (sheet .entry)) (now (sheet .exit)) ⌝ }
+{
     println!(rt, "{act}")?;
     match change(sheet, act) {
         None => look(rt, sheet, act)?,
@@ -260,10 +271,34 @@ fn story(rt: &LibcRuntime, title: &str, acts: &[Act]) -> io::Result<()> {
     Ok(())
 }
 
+/// First and last starts of groups, and times between them at which one cannot start.
+const RANGES: [Act; 19] = [
+    Act::Enter(1, 0, 480),
+    Act::Enter(2, 0, 480),
+    Act::Range(1),
+    Act::Range(2),
+    Act::Change(1, 0, 1000),
+    Act::Change(2, 100, 300),
+    Act::Range(1),
+    Act::Range(2),
+    Act::Range(9),
+    Act::Call(1, 580),
+    Act::Range(1),
+    Act::StandDown(1),
+    Act::Change(2, 1000, 1000),
+    Act::Change(1, 0, 2000),
+    Act::Range(1),
+    Act::Through(1, 520, 2),
+    Act::Through(1, 521, 2),
+    Act::Through(1, 1479, 2),
+    Act::Through(1, 1480, 2),
+];
+
 pub fn stories(rt: &LibcRuntime) -> io::Result<()> {
     story(rt, "two groups of which one cannot start first", &PAIR)?;
     story(rt, "two groups in one window", &TWINS)?;
-    story(rt, "every refusal", &REFUSALS)
+    story(rt, "every refusal", &REFUSALS)?;
+    story(rt, "first and last starts", &RANGES)
 }
 
 /// Enters groups in one window until one is refused, and tells the sheet's number of groups.

@@ -48,7 +48,7 @@ no-among P (q ∷ qs) n a e = go (q .yes) e (λ d. no-among P qs n (a .1) d)
     go false d ih = let z : q .number ≡ n = cc in subst P z (a .0)
 
 -- a no decides, whatever is asked after it
-no-stays : (qs more : List Question) (n : ℕ) → first-no qs ≡ Some n → first-no (qs ++ more) ≡ Some n
+pub no-stays : (qs more : List Question) (n : ℕ) → first-no qs ≡ Some n → first-no (qs ++ more) ≡ Some n
 no-stays [] more n e = let z : _≡_ {A = ℕ} 0 1 = cc in absurd (omega arith)
 no-stays (q ∷ qs) more n e = go (q .yes) e (λ d. no-stays qs more n d)
   where
@@ -57,11 +57,20 @@ no-stays (q ∷ qs) more n e = go (q .yes) e (λ d. no-stays qs more n d)
     go false d ih = d
 
 -- with no no so far, what comes after decides
-no-later : (qs more : List Question) → first-no qs ≡ None → first-no (qs ++ more) ≡ first-no more
+pub no-later : (qs more : List Question) → first-no qs ≡ None → first-no (qs ++ more) ≡ first-no more
 no-later [] more e = refl
 no-later (q ∷ qs) more e = go (q .yes) e (λ d. no-later qs more d)
   where
     go : (b : Bool) → cond b (first-no qs) (Some (q .number)) ≡ None → (first-no qs ≡ None → first-no (qs ++ more) ≡ first-no more) → cond b (first-no (qs ++ more)) (Some (q .number)) ≡ first-no more
+    go true d ih = ih d
+    go false d ih = let z : _≡_ {A = ℕ} 0 1 = cc in absurd (omega arith)
+
+-- and with none at all there was none on the way
+pub none-both : (qs more : List Question) → first-no (qs ++ more) ≡ None → (first-no qs ≡ None) × (first-no more ≡ None)
+none-both [] more e = (refl, e)
+none-both (q ∷ qs) more e = go (q .yes) e (λ d. none-both qs more d)
+  where
+    go : (b : Bool) → cond b (first-no (qs ++ more)) (Some (q .number)) ≡ None → (first-no (qs ++ more) ≡ None → (first-no qs ≡ None) × (first-no more ≡ None)) → (cond b (first-no qs) (Some (q .number)) ≡ None) × (first-no more ≡ None)
     go true d ih = ih d
     go false d ih = let z : _≡_ {A = ℕ} 0 1 = cc in absurd (omega arith)
 

@@ -8,3 +8,5 @@ pub mod Asked
 pub mod Unused
 pub mod Playing
 pub mod Listed
+pub mod Bisecting
+pub mod Placed

@@ -24,7 +24,7 @@ use Rattle.sheet.specs.Questions.{questions, verdict}
 use Rattle.sheet.specs.Sheets.{content}
 use Rattle.sheet.proofs.Passing.{pass-set, pass-inserted, pass-removed}
 use Rattle.sheet.proofs.Soundness.{sound-from}
-use Rattle.sheet.proofs.Playing.{plays, decided}
+use Rattle.sheet.proofs.Playing.{plays, decided, none-play}
 use Rattle.sheet.proofs.Stepping.{placed, sound-row, called-sound, changed-sound}
 use Rattle.sheet.proofs.Thinning.{fewer-play}
 use Rattle.sheet.proofs.Widening.{Eases, wider-play, stands-down, goes-away}
@@ -42,6 +42,9 @@ kept-by-sheet s = record { sorted = s .sorted; kept = s .kept; steady = s .stead
 -- as a sheet that holds other rows and another pace owes it
 pub owed : (c : Content) → Kept c → (rs : List Row) (p : ℕ) → rs ≡ c .rows → p ≡ c .pace → (rising (numbers-of rs) ≡ true) × ((all-pass sound rs ≡ true) × ((paced p ≡ true) × ((playable rs p ≡ true) × Unit {0})))
 owed c k rs p e f = (ap (λ (us : List Row). rising (numbers-of us)) e ∙ k .sorted, (ap (all-pass sound) e ∙ k .kept, (ap paced f ∙ k .steady, ((λ i. playable (e i) (f i)) ∙ k .possible, tt))))
+
+pub none-kept : (p : ℕ) → paced p ≡ true → Kept (record { rows = []; pace = p })
+none-kept p h = record { sorted = refl; kept = refl; steady = h; possible = none-play p }
 
 -- where no question gets a no, each got a yes
 pub all-yes : (qs : List Question) → first-no qs ≡ None → All (λ q. q .yes ≡ true) qs

@@ -14,3 +14,12 @@ pub mod Keeping
 pub mod Thirteen
 pub mod Outcomes
 pub mod Listing
+pub mod Striking
+pub mod Settling
+pub mod Ranging
+pub mod Extending
+pub mod Beginning
+pub mod Slips
+pub mod Steps
+pub mod Alone
+pub mod Asking

@@ -15,7 +15,7 @@ use Rattle.field.specs.Refusals.{number-of, by-number, Question, question, firs
 use Rattle.sheet.specs.Questions.{answered}
 
 -- a no decides, whatever is asked after it
-no-stays : (qs more : List Question) (n : ℕ) → first-no qs ≡ Some n → first-no (qs ++ more) ≡ Some n
+pub no-stays : (qs more : List Question) (n : ℕ) → first-no qs ≡ Some n → first-no (qs ++ more) ≡ Some n
 no-stays [] more n e = let z : _≡_ {A = ℕ} 0 1 = cc in absurd (omega arith)
 no-stays (q ∷ qs) more n e = go (q .yes) e (λ d. no-stays qs more n d)
   where

@@ -10,21 +10,11 @@ use Rattle.sheet.specs.declared.row.Row.{Row}
 use Rattle.sheet.specs.declared.row.Standing.the-variants.{Called}
 use Rattle.sheet.specs.declared.row.Step.{Step}
 use Rattle.sheet.specs.declared.row.Step.the-variants as step
+-- what may be asked of a sheet
+pub use Rattle.sheet.specs.declared.call.Call.{Call}
+pub use Rattle.sheet.specs.declared.call.Call.the-variants.{Enter, Change, Withdraw, Pace, CallUp, StandDown, SendAway, Open, Keep, Back, Order, Through, RangeOf, Spans}
 use Rattle.sheet.specs.Standings.{stood, stepped, waiting}
 use Rattle.sheet.specs.Content.{Content, place, row, joined}
-
--- g names a group by number, e and l are an early and a late start, t is a time and p a pace
-pub data Call : Type 0 where
-  Enter : (g : ℕ) (e l : ℤ) → Call
-  Change : (g : ℕ) (e l : ℤ) → Call
-  Withdraw : (g : ℕ) → Call
-  Pace : (p : ℕ) → Call
-  CallUp : (g : ℕ) (t : ℤ) → Call
-  StandDown : (g : ℕ) → Call
-  SendAway : (g : ℕ) → Call
-  Order : Call
-  Through : (g : ℕ) (t : ℤ) → Call
-  Spans : Call
 
 -- what was made, or else what was there
 abbrev pub made-or : {X : Type 0} → X → Result X ℕ → X
@@ -42,8 +32,8 @@ abbrev pub with-rows : Content → List Row → Content
 with-rows c rs = record { rows = rs; pace = c .pace }
 
 -- Enter adds a waiting group, change, call, stand down and away are a group's steps, withdraw removes one, pace
--- sets the pace. Through holds one group at one time, for the list that it writes alone. Order and spans change
--- nothing.
+-- sets the pace. Through holds one group at one time, for the list that it writes alone. Order, range and spans
+-- change nothing, and neither do open, keep and back: they say what the calls around them come to.
 abbrev pub change-made : Call → Content → Content
 change-made (Enter g e l) c = with-rows c (joined (waiting g e l) (c .rows))
 change-made (Change g e l) c = with-rows c (step-of g (step.Change e l) (c .rows))
@@ -52,6 +42,10 @@ change-made (Pace p) c = record { rows = c .rows; pace = p }
 change-made (CallUp g t) c = with-rows c (step-of g (step.CallUp t) (c .rows))
 change-made (StandDown g) c = with-rows c (step-of g step.StandDown (c .rows))
 change-made (SendAway g) c = with-rows c (step-of g step.SendAway (c .rows))
+change-made Open c = c
+change-made (Keep slip) c = c
+change-made (Back slip) c = c
 change-made Order c = c
 change-made (Through g t) c = with-rows c (set (c .rows) (place g (c .rows)) (stood (row g (c .rows)) (Called t)))
+change-made (RangeOf g) c = c
 change-made Spans c = c

@@ -4,4 +4,10 @@ pub mod Bounded
 pub mod Content
 pub mod Calls
 pub mod Questions
+pub mod Ranges
+pub mod Trials
 pub mod Sheets
+pub mod Answers
+pub mod Book
+pub mod Law
+pub mod One-book

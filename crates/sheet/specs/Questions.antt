@@ -22,7 +22,7 @@ use Rattle.sheet.specs.declared.row.Step.the-variants as step
 use Rattle.sheet.specs.Standings.{counts, stepped}
 use Rattle.sheet.specs.Sound.{numbered, within}
 use Rattle.sheet.specs.Content.{Content, on, row, paced, playable, Playable}
-use Rattle.sheet.specs.Calls.{Call, Enter, Change, Withdraw, Pace, CallUp, StandDown, SendAway, Order, Through, Spans, change-made}
+use Rattle.sheet.specs.Calls.{Call, Enter, Change, Withdraw, Pace, CallUp, StandDown, SendAway, Open, Keep, Back, Order, Through, RangeOf, Spans, change-made}
 
 -- 3: is the pace 1 to 3,600?
 abbrev pub q-pace : ℕ → Question
@@ -71,7 +71,7 @@ q-list room rs = question 12 (leb (length rs) room)
 abbrev pub q-order : Content → Question
 q-order c = question 13 (playable (c .rows) (c .pace))
 
--- the questions of each call in their order, where a list has so much room
+-- the questions about groups and lists of each call in their order, where a list has so much room
 abbrev pub questions : Content → Call → ℕ → List Question
 questions c (Enter g e l) room = q-room (c .rows) ∷ q-number g ∷ q-times e l ∷ q-upright e l ∷ q-new g (c .rows) ∷ q-order (change-made (Enter g e l) c) ∷ []
 questions c (Change g e l) room = q-times e l ∷ q-upright e l ∷ q-on g (c .rows) ∷ q-standing g (step.Change e l) (c .rows) ∷ q-order (change-made (Change g e l) c) ∷ []
@@ -80,8 +80,12 @@ questions c (Pace p) room = q-pace p ∷ q-order (change-made (Pace p) c) ∷ []
 questions c (CallUp g t) room = q-time t ∷ q-on g (c .rows) ∷ q-standing g (step.CallUp t) (c .rows) ∷ q-inside g t (c .rows) ∷ q-order (change-made (CallUp g t) c) ∷ []
 questions c (StandDown g) room = q-on g (c .rows) ∷ q-standing g step.StandDown (c .rows) ∷ []
 questions c (SendAway g) room = q-on g (c .rows) ∷ q-standing g step.SendAway (c .rows) ∷ []
+questions c Open room = []
+questions c (Keep slip) room = []
+questions c (Back slip) room = []
 questions c Order room = q-list room (c .rows) ∷ []
 questions c (Through g t) room = q-time t ∷ q-on g (c .rows) ∷ q-inside g t (c .rows) ∷ q-list room (c .rows) ∷ q-order (change-made (Through g t) c) ∷ []
+questions c (RangeOf g) room = q-on g (c .rows) ∷ []
 questions c Spans room = q-list room (c .rows) ∷ []
 
 -- the first no decides: its number, and none where all are yes
@@ -93,7 +97,7 @@ abbrev pub answered : {X : Type 0} → Option ℕ → X → Result X ℕ
 answered None x = Ok x
 answered (Some n) x = Err n
 
-abbrev pub after : Option ℕ → Content → Content → Content
+abbrev pub after : {X : Type 0} → Option ℕ → X → X → X
 after None new old = new
 after (Some n) new old = old
 

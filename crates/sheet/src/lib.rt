@@ -4,15 +4,20 @@
 //! which layers stand.
 
 mod bounds;
+pub mod call;
 mod one_more;
 pub mod row;
 pub mod rows;
 pub mod sheet;
 mod table;
 
+pub use call::Answer;
+pub use call::Call;
+pub use call::Request;
 pub use row::Row;
 pub use row::Standing;
 pub use rows::Rows;
 pub use rows::RowsField;
 pub use rows::RowsNumbered;
 pub use sheet::Sheet;
+pub use sheet::Slip;

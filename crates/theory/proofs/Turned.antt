@@ -1,17 +1,18 @@
--- Orders of play of the reversed field.
-use mathlib.Core.Path.{_≡_, sym, subst, _∙_}
+-- Orders of play of the reversed field, and its first starts.
+use mathlib.Core.Path.{_≡_, sym, ap, subst, _∙_}
 use mathlib.Core.List.{List, map}
 use mathlib.Core.Logic.{inl, inr}
 use Prim.Native.Nat.{ℕ, _<_}
 use native.Mathlib.Omega.{arith}
 use lib.ListN.{length}
-use lib.IntN.{ℤ, pos, negℤ}
+use lib.IntN.{ℤ, pos, negℤ, negℤ-negℤ}
 use Rattle.std.proofs.shelf.Signed.{ints}
 use Rattle.std.proofs.shelf.Lists.{length-map, getD-map}
 use Rattle.field.specs.declared.window.Window.{Window}
 use Rattle.field.specs.Windows.{outside}
 use Rattle.field.specs.Reversed.{turned}
 use Rattle.theory.specs.Orders.{window-at, start-at, In, Apart, OrderOfPlay}
+use Rattle.theory.specs.Theorem.{First, Last}
 
 in-turned : (w : Window) (x : ℤ) → In w x → In (turned w) (negℤ x)
 in-turned w x h = record { from = omega (arith, ints, h .to); to = omega (arith, ints, h .from) }
@@ -66,3 +67,28 @@ unturned-order p ws xs o =
           (in-unturned (window-at ws i) (start-at xs i) (subst (λ w. In w (start-at xs i)) (window-turned ws i h) (o .within i (omega (arith, len)))));
       apart = λ i j a b. apart-map p xs (length ws) same′ (λ i j a b. o .apart i j a (omega (arith, len))) i j a b;
     }
+
+module _ (p : ℤ) (ws : List Window) (i : ℕ) (x : ℤ) (h : i < length ws) where
+  pub last-first : Last p ws i x → First p (map turned ws) i (negℤ x)
+  last-first q =
+      let xs = q .0 .0 in
+      let o = q .0 .1 in (
+        (map negℤ xs, turned-order p ws xs o, start-neg xs i (omega (arith, o .same)) ∙ ap negℤ (q .0 .2)),
+        (λ ys r.
+            let len = length-map ws turned in
+            let e = start-neg ys i (omega (arith, r .same, len)) in
+            let k = q .1 (map negℤ ys) (unturned-order p ws ys r) in
+            omega (arith, ints, e)),
+      )
+
+  pub first-last : First p (map turned ws) i (negℤ x) → Last p ws i x
+  first-last q =
+      let ys = q .0 .0 in
+      let r = q .0 .1 in
+      let len = length-map ws turned in (
+        (map negℤ ys, unturned-order p ws ys r, start-neg ys i (omega (arith, r .same, len)) ∙ ap negℤ (q .0 .2) ∙ negℤ-negℤ x),
+        (λ xs o.
+            let e = start-neg xs i (omega (arith, o .same)) in
+            let k = q .1 (map negℤ xs) (turned-order p ws xs o) in
+            omega (arith, ints, e)),
+      )

@@ -66,6 +66,10 @@ Cut-stays-possible =
 abbrev pub First : ℤ → List Window → ℕ → ℤ → Type 0
 First p ws i x = ((xs : List ℤ) × OrderOfPlay p ws xs × (start-at xs i ≡ x)) × ((xs : List ℤ) → OrderOfPlay p ws xs → x ≤ℤ start-at xs i)
 
+-- x is the greatest start that an order of play gives place i
+abbrev pub Last : ℤ → List Window → ℕ → ℤ → Type 0
+Last p ws i x = ((xs : List ℤ) × OrderOfPlay p ws xs × (start-at xs i ≡ x)) × ((xs : List ℤ) → OrderOfPlay p ws xs → start-at xs i ≤ℤ x)
+
 -- x is the least time of its window to which place i can be cut
 abbrev pub Shortest : ℤ → List Window → ℕ → ℤ → Type 0
 Shortest p ws i x = In (window-at ws i) x × Possible p (cut ws i x) × ((y : ℤ) → In (window-at ws i) y → Possible p (cut ws i y) → x ≤ℤ y)
@@ -73,3 +77,10 @@ Shortest p ws i x = In (window-at ws i) x × Possible p (cut ws i x) × ((y : �
 -- the least time to which a place can be cut is its first start
 abbrev pub Least-cut-is-first : Type 0
 Least-cut-is-first = (p : ℤ) (ws : List Window) (i : ℕ) (x : ℤ) → i < length ws → (First p ws i x → Shortest p ws i x) × (Shortest p ws i x → First p ws i x)
+
+-- the last start of a place is minus its first start in the reversed field
+abbrev pub Last-is-first-turned : Type 0
+Last-is-first-turned =
+    (p : ℤ) (ws : List Window) (i : ℕ) (x : ℤ) →
+    i < length ws →
+    (Last p ws i x → First p (map turned ws) i (negℤ x)) × (First p (map turned ws) i (negℤ x) → Last p ws i x)

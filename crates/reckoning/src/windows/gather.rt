@@ -1,9 +1,12 @@
-ghost use Prim.Native.Nat.{_≤_};
+ghost use Prim.Native.Nat.{_<_, _≤_};
 ghost use Rattle.field.specs.Refusals.{number-of};
 ghost use Rattle.field.specs.Windows.{outside};
 ghost use Rattle.reckoning.specs.Questions.{every, timed, upright, refused};
+ghost use Rattle.reckoning.specs.Told.{windows-of};
 ghost use Rattle.std.specs.Results.{Cases};
 ghost use Rattle.std.specs.declared.option.Option.the-variants.{Some, None};
+ghost use Rattle.theory.specs.Orders.{window-at};
+ghost use Rattle.theory.specs.Theorem.{cut};
 ghost use lib.ListN.{length, getD, take};
 ghost use mathlib.Core.Path.{_≡_};
 use crate::windows::Windows;
@@ -17,6 +20,30 @@ impl Windows {
         ensures { λ r. ⌜ now r ≡ take (now (self .entry) .len) (now (self .entry) .list) ⌝ }
     {
         &self.list[0..self.len]
+    }
+
+    /// The window at a place.
+    pub fn at(&self, place: usize) -> Window
+        requires { ⌜ place < now self .len ⌝ }
+        ensures { λ r. ⌜ r ≡ window-at (windows-of (now (self .entry))) place ⌝ }
+    {
+        self.list[place]
+    }
+
+    /// The windows with that of one place cut to its early..late.
+    pub fn cut(&self, place: usize, late: i64) -> Windows
+        requires { ⌜ place < now self .len ⌝ }
+        ensures { λ r. ⌜ windows-of r ≡ cut (windows-of (now (self .entry))) place late ⌝ }
+    {
+        let mut list = self.list;
+        list[place] = Window {
+            early: self.list[place].early,
+            late,
+        };
+        Windows {
+            list,
+            len: self.len,
+        }
     }
 }
 

@@ -1,6 +1,8 @@
 //! A blank sheet, and what a sheet tells of itself.
 
 ghost use Rattle.sheet.specs.Content.{Playable, blank};
+ghost use Rattle.sheet.specs.Book.{start};
+ghost use Rattle.sheet.specs.Law.{Lawful};
 ghost use Rattle.sheet.specs.Sheets.{content};
 ghost use Rattle.std.specs.Vec.{made};
 ghost use Rattle.std.specs.declared.option.Option.the-variants.{Some, None};
@@ -12,6 +14,7 @@ ghost use mathlib.Core.Bool.{cond};
 ghost use mathlib.Core.Path.{_≡_};
 use crate::row::Row;
 use crate::rows::Rows;
+use crate::sheet::Saved;
 use crate::sheet::Sheet;
 use crate::table::Table;
 use std::alloc::AllocError;
@@ -21,16 +24,24 @@ use std::alloc::Global;
 const USUAL_PACE: u16 = 480;
 
 impl Sheet {
-    /// A sheet with no rows. It alone can fail for want of memory, which it reserves for all that comes.
+    /// A sheet with no rows. It alone can fail for want of memory, which it reserves for all that comes, trials too.
     pub fn blank(heap: Global, number: u16) -> Result<Sheet, AllocError>
         ensures held { λ r. ⌜ made r (λ s. content s ≡ blank) ⌝ }
         ensures number { λ r. ⌜ made r (λ s. s .number ≡ number) ⌝ }
+        ensures law { λ r. ⌜ made r (λ s. Lawful number start s) ⌝ }
     {
         let table = Table::empty(heap)?;
+        let spare = Table::empty(heap)?;
+        let saved = Saved {
+            table: spare,
+            pace: USUAL_PACE,
+        };
         Ok(Sheet {
             number,
             table,
             pace: USUAL_PACE,
+            trial: false,
+            saved,
         })
     }
 

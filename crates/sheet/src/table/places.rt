@@ -93,4 +93,19 @@ impl Table {
     {
         let _ = self.rows.remove(place);
     }
+
+    /// Takes all rows out. Their memory serves again.
+    pub fn clear(&mut self)
+        ensures { λ _. ⌜ vec-items (now (self .exit) .rows) ≡ [] ⌝ }
+    {
+        self.rows.clear();
+    }
+
+    /// Puts another table's rows into an empty one. There is memory for them.
+    pub fn fill(&mut self, other: &Table)
+        requires { ⌜ vec-items (now self .rows) ≡ [] ⌝ }
+        ensures { λ _. ⌜ vec-items (now (self .exit) .rows) ≡ vec-items (now (other .entry) .rows) ⌝ }
+    {
+        let _ = self.rows.extend_from_slice(other.rows());
+    }
 }

@@ -6,7 +6,7 @@ use Rattle.theory.specs.Closed.{Outside}
 use Rattle.theory.proofs.Sound.{Good, good}
 use Rattle.theory.proofs.Complete.{complete}
 use Rattle.theory.proofs.Deciding.{possible-some, some-possible}
-use Rattle.theory.proofs.Turned.{turned-order, unturned-order}
+use Rattle.theory.proofs.Turned.{turned-order, unturned-order, last-first, first-last}
 use Rattle.theory.proofs.Cutting.{cut-less, first-shortest, shortest-first}
 use Rattle.theory.proofs.theorem.method_decides_orders_of_play.Needs as need
 
@@ -20,4 +20,5 @@ returns c =
       duality = λ p ws xs. (turned-order p ws xs, unturned-order p ws xs);
       cutting = λ p ws i x y h k l o. cut-less p ws i h x y k l o;
       least = λ p ws i x h. (first-shortest p ws i h x, shortest-first p ws i h x);
+      last = λ p ws i x h. (last-first p ws i x h, first-last p ws i x h);
     }

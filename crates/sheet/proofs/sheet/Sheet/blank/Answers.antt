@@ -1,14 +1,17 @@
-use mathlib.Core.Path.{_≡_, refl, sym, subst}
-use mathlib.Core.Bool.{true}
-use mathlib.Core.List.{List}
-use Rattle.std.specs.shelf.Lawful.{all-pass}
-use Rattle.sheet.specs.declared.row.Row.{Row}
-use Rattle.sheet.specs.Content.{numbers-of, playable, rising}
-use Rattle.sheet.specs.Sound.{sound}
-use Rattle.sheet.proofs.Playing.{none-play}
+use mathlib.Core.Path.{refl, ap}
+use Rattle.sheet.specs.Content.{blank}
+use Rattle.sheet.specs.Calls.{with-rows}
+use Rattle.sheet.proofs.Keeping.{none-kept, owed}
+use Rattle.sheet.proofs.Beginning.{blank-lawful}
 use Rattle.sheet.proofs.sheet.Sheet.blank.Needs as need
 
+pub ghost-saved : need.ghost-saved
+ghost-saved c = owed blank (none-kept 480 refl) _ 480 (c .in-Continue-spare .ensures tt) refl
+
 pub ghost-result : need.ghost-result
-ghost-result c =
-    let e = sym (c .in-Continue-table .ensures tt) in
-    (subst (λ (rs : List Row). rising (numbers-of rs) ≡ true) e refl, (subst (λ (rs : List Row). all-pass sound rs ≡ true) e refl, (refl, (subst (λ (rs : List Row). playable rs 480 ≡ true) e (none-play 480), tt))))
+ghost-result c = owed blank (none-kept 480 refl) _ 480 (c .in-Continue-table .ensures tt) refl
+
+pub returns : need.returns
+returns c =
+    let held = ap (with-rows blank) (c .in-Continue-table .ensures tt) in
+    record { held = held; number = refl; law = blank-lawful _ (c .args .number) refl held refl }

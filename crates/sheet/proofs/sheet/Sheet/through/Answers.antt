@@ -18,6 +18,7 @@ use Rattle.reckoning.specs.Lists.{answer, leaves}
 use Rattle.reckoning.specs.Order.{Plays}
 use Rattle.sheet.specs.declared.row.Standing.the-variants.{Called}
 use Rattle.sheet.specs.declared.rows.Rows.{Rows}
+use Rattle.sheet.specs.Answers.{count, said-by}
 use Rattle.sheet.specs.Calls.{Through, change-made}
 use Rattle.sheet.specs.Content.{numbers-of, order-of, place, row, windows-of}
 use Rattle.sheet.specs.Questions.{answered, q-inside, q-list, q-on, q-order, q-time, verdict}
@@ -25,6 +26,7 @@ use Rattle.sheet.specs.Sheets.{content}
 use Rattle.sheet.specs.Standings.{stood}
 use Rattle.sheet.proofs.Keeping.{kept-by-sheet}
 use Rattle.sheet.proofs.Listing.{counted, held-listed}
+use Rattle.sheet.proofs.Steps.{starts-go-on}
 use Rattle.sheet.proofs.Stopping.{passed, refused-by, stops}
 use Rattle.sheet.proofs.Thirteen.{through-13}
 use Rattle.sheet.proofs.Tried.{few, held-windows}
@@ -46,9 +48,12 @@ returns-in-Break-place c =
     let no = subst (λ (u : ℤ). _≡_ {A = Result ℕ ℕ} (Err (number-of q)) (answered (first-no (q-time u ∷ q-on g (k .rows) ∷ q-inside g u (k .rows) ∷ [])) (place g (k .rows)))) x (c .in-Break-place .ensures tt) in
     let said = stops [] (q-time t ∷ q-on g (k .rows) ∷ q-inside g t (k .rows) ∷ []) (q-list room (k .rows) ∷ q-order new ∷ []) r q (length xs) (place g (k .rows)) refl i no in
     let v = refused-by (verdict k (Through g t) room) (length xs) (number-of q) (sym (ap by-number i) ∙ said) in
+    let told = said ∙ sym (counted (verdict k (Through g t) room) xs) in
+    let left = sym (ap (λ (o : Option ℕ). leaves (answered o xs) (c .args .list .now)) v) in
     record {
-      answer = said ∙ sym (counted (verdict k (Through g t) room) xs);
-      list = sym (ap (λ (o : Option ℕ). leaves (answered o xs) (c .args .list .now)) v);
+      answer = told;
+      list = left;
+      law = starts-go-on s (Through g t) xs (record { starts = c .args .list .now; spans = [] }) _ _ (λ n. refl) (λ b ls t. t) refl refl (Through g t) refl (ap (said-by count) told) left;
       held = refl;
       thirteen = through-13 k (s .steady) r (length xs) g t room said;
       plays = subst (λ (z : Result ℕ Refusal). Cases z (λ n. Plays (pos (s .pace)) (windows-of (new .rows)) (take n (c .args .list .now))) (λ _. Unit {0})) (sym i) tt;
@@ -73,9 +78,11 @@ returns c =
     let windows = held-windows rs _ (place g rs) _ (stood (row g rs) (Called t)) _ _ below (h .1 ∙ p .1) (h .2 ∙ x) (h .3 ∙ x) in
     let told = held-listed k (kept-by-sheet s) (few s) g t room (p .0) _ _ windows (ap numbers-of below) in
     let said = c .order .ensures .answer ∙ ap answer told in
+    let left = c .order .ensures .list ∙ ap (λ o. leaves o before) told in
     record {
       answer = said;
-      list = c .order .ensures .list ∙ ap (λ o. leaves o before) told;
+      list = left;
+      law = starts-go-on s (Through g t) xs (record { starts = before; spans = [] }) _ _ (λ n. refl) (λ b ls t. t) refl refl (Through g t) refl (ap (said-by count) said) left;
       held = refl;
       thirteen = through-13 k (s .steady) (c .order .result) (length xs) g t room (said ∙ counted (verdict k (Through g t) room) xs);
       plays = subst (λ (ws : List Window). Cases (c .order .result) (λ n. Plays (pos (s .pace)) ws (take n (c .order .last .list))) (λ _. Unit {0})) windows (c .order .ensures .plays);
