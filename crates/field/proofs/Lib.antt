@@ -1,2 +1,3 @@
+pub mod In-a-row
 pub mod Records
 pub mod Set-once

@@ -1,7 +1,7 @@
 -- The bisection for the first start of a place.
 use mathlib.Core.Path.{_≡_, refl, sym, ap, subst, _∙_}
 use mathlib.Core.List.{List, [], _∷_}
-use mathlib.Core.Bool.{Bool, true, false}
+use mathlib.Core.Bool.{true, false}
 use mathlib.Core.Logic.{_⊎_, inl, inr}
 use Prim.Native.Nat.{ℕ, zero, suc, _+_, _-_, _≤_, _<_}
 use native.Mathlib.Omega.{arith}
@@ -16,7 +16,7 @@ use Rattle.std.proofs.shelf.Elements.{all-set, all-getD}
 use Rattle.std.proofs.shelf.Lists.{getD-take, set-getD, length-take-le, length-take, length-set}
 use Rattle.field.specs.declared.window.Window.{Window}
 use Rattle.field.specs.Windows.{window, outside}
-use Rattle.theory.specs.Orders.{In, Possible, window-at}
+use Rattle.theory.specs.Orders.{Possible, window-at}
 use Rattle.theory.specs.Method.{forbidden}
 use Rattle.theory.specs.Theorem.{cut, First}
 use Rattle.theory.proofs.Deciding.{possible-some, some-possible}

@@ -1,6 +1,6 @@
 -- What the questions of a place say, in a field and in the reversed one.
 use mathlib.Core.Path.{_≡_, refl, sym, ap, subst, _∙_}
-use mathlib.Core.List.{List, [], _∷_, _++_, map}
+use mathlib.Core.List.{List, [], _∷_, map}
 use mathlib.Core.Bool.{Bool, true, false, _&&_}
 use mathlib.Core.Logic.{inl, inr}
 use Prim.Native.Nat.{ℕ, _≤_, _<_}
@@ -12,7 +12,6 @@ use lib.Signed.{_≤ℤ_}
 use mir.Syntax.{w64}
 use mir.Val.{toZ, ofZ}
 use Rattle.std.specs.Options.{isSome}
-use Rattle.std.specs.shelf.Lists.{All}
 use Rattle.std.proofs.shelf.Signed.{ints}
 use Rattle.std.proofs.shelf.Elements.{all-getD}
 use Rattle.std.proofs.shelf.Lists.{length-map}
@@ -25,15 +24,16 @@ use Rattle.field.specs.declared.refusal.Refusal.the-variants.{Unknown, NoOrder}
 use Rattle.field.specs.Refusals.{number-of, Question, question, first-no}
 use Rattle.field.specs.Reversed.{turned}
 use Rattle.field.specs.Windows.{outside}
-use Rattle.theory.specs.Orders.{Possible, window-at}
+use Rattle.theory.specs.Orders.{window-at}
 use Rattle.theory.specs.Method.{forbidden}
 use Rattle.theory.specs.Theorem.{First, Last}
 use Rattle.theory.proofs.Deciding.{possible-some, some-possible}
 use Rattle.theory.proofs.Turned.{turned-order, first-last}
 use Rattle.reckoning.specs.Questions.{every, in-time, timed, upright, questions, refused}
-use Rattle.reckoning.specs.Range.{placed, Refused, First-told, Range-told}
+use Rattle.reckoning.specs.Range.{placed, Refused, First-told}
 use Rattle.reckoning.specs.Values.{Timed}
-use Rattle.reckoning.proofs.Asked.{no-stays, no-later, none-both, passed}
+use Rattle.field.proofs.In-a-row.{no-stays, no-later, none-both}
+use Rattle.reckoning.proofs.Asked.{passed}
 
 -- ---- the ways out of the first start
 

@@ -3,14 +3,11 @@ use mathlib.Core.Path.{_≡_, refl, sym, ap, subst, _∙_}
 use mathlib.Core.List.{List}
 use mathlib.Core.Logic.{inl, inr}
 use Prim.Native.Nat.{ℕ}
-use native.Mathlib.Omega.{arith}
-use Rattle.std.specs.declared.option.Option.{Option}
-use Rattle.std.specs.declared.option.Option.the-variants.{Some, None}
 use Rattle.std.specs.declared.result.Result.{Result}
 use Rattle.std.specs.declared.result.Result.the-variants.{Ok, Err}
 use Rattle.field.specs.declared.refusal.Refusal.{Refusal}
 use Rattle.field.specs.declared.window.Window.{Window}
-use Rattle.field.specs.Refusals.{number-of, by-number}
+use Rattle.field.specs.Refusals.{by-number}
 use Rattle.reckoning.specs.declared.ends.Range.{Range}
 use Rattle.reckoning.specs.Range.{Range-told}
 use Rattle.sheet.specs.Answers.{Said, range, refusal, said-by}

@@ -1,5 +1,5 @@
 -- A blank sheet begins by the law.
-use mathlib.Core.Path.{_≡_, ap, subst, sym}
+use mathlib.Core.Path.{_≡_, subst, sym}
 use mathlib.Core.Bool.{Bool, false, cond}
 use mathlib.Core.List.{[]}
 use Prim.Native.Nat.{ℕ}

@@ -2,23 +2,20 @@
 use mathlib.Core.Path.{_≡_, refl, sym, ap, subst, _∙_}
 use mathlib.Core.Bool.{Bool, true, false, cond}
 use mathlib.Core.List.{List}
-use mathlib.Core.Logic.{inl, inr}
 use Prim.Native.Nat.{ℕ}
-use native.Mathlib.Omega.{arith}
 use Rattle.std.proofs.shelf.Tests.{cond-true}
 use Rattle.std.specs.declared.option.Option.{Option}
 use Rattle.std.specs.declared.option.Option.the-variants.{Some, None}
-use Rattle.field.specs.Refusals.{first-no}
 use Rattle.reckoning.specs.declared.ends.Range.{Range}
 use Rattle.sheet.specs.declared.sheet.Sheet.{Sheet}
-use Rattle.sheet.specs.Content.{Content, on, Playable}
+use Rattle.sheet.specs.Content.{Content, on}
 use Rattle.sheet.specs.Calls.{Call, Enter, Change, Withdraw, Pace, CallUp, StandDown, SendAway, Open, Keep, Back, Order, Through, RangeOf, Spans}
 use Rattle.sheet.specs.Questions.{questions}
 use Rattle.sheet.specs.Trials.{Held, Kind, joins, departs, opens, keeps, backs, tells, kind, decision}
 use Rattle.sheet.specs.Ranges.{Group-bounds}
 use Rattle.sheet.specs.Sheets.{content, saved-content, at-open, holds}
 use Rattle.sheet.specs.Answers.{Said, range, refused, got}
-use Rattle.sheet.specs.Book.{made, taken-back, trials-in, marked, held, Lists, room, Passes, First-no, Told, Event, History, more, refusal, entry}
+use Rattle.sheet.specs.Book.{made, taken-back, marked, held, Lists, room, Passes, First-no, Told, Event, History, more, refusal, entry}
 use Rattle.sheet.specs.Law.{Thirteen-rightly, Range-rightly, Back-to, Lawful, Goes-on}
 use Rattle.sheet.proofs.Playing.{plays}
 use Rattle.sheet.proofs.Striking.{trials-of, Matches, moved, remembered, Trials-fit, taken}

@@ -1,16 +1,14 @@
 -- What every sheet keeps to, and that a call whose questions are all passed leaves it so.
 use mathlib.Core.Path.{_≡_, refl, ap, _∙_}
-use mathlib.Core.Bool.{Bool, true, false, cond}
-use mathlib.Core.List.{List, [], _∷_}
+use mathlib.Core.Bool.{true}
+use mathlib.Core.List.{List, []}
 use Prim.Native.Nat.{ℕ}
-use native.Mathlib.Omega.{arith}
 use lib.IntN.{ℤ}
 use Rattle.std.specs.Holes.{removed}
 use Rattle.std.specs.shelf.Lawful.{all-pass}
-use Rattle.std.specs.shelf.Lists.{All}
-use Rattle.std.specs.declared.option.Option.the-variants.{Some, None}
+use Rattle.std.specs.declared.option.Option.the-variants.{None}
 use Rattle.std.proofs.shelf.Tests.{and-parts, not-true}
-use Rattle.field.specs.Refusals.{Question, first-no}
+use Rattle.field.proofs.In-a-row.{all-yes}
 use Rattle.reckoning.specs.Questions.{in-time}
 use Rattle.sheet.specs.declared.row.Row.{Row}
 use Rattle.sheet.specs.declared.row.Step.{Step}
@@ -19,7 +17,7 @@ use Rattle.sheet.specs.declared.sheet.Sheet.{Sheet}
 use Rattle.sheet.specs.Standings.{stepped, waiting}
 use Rattle.sheet.specs.Sound.{sound}
 use Rattle.sheet.specs.Content.{Content, place, place-for, on, row, rising, numbers-of, paced, playable}
-use Rattle.sheet.specs.Calls.{Enter, Change, Withdraw, Pace, CallUp, StandDown, SendAway, made-or, step-of, change-made}
+use Rattle.sheet.specs.Calls.{Enter, Change, Withdraw, CallUp, StandDown, SendAway, made-or, step-of, change-made}
 use Rattle.sheet.specs.Questions.{questions, verdict}
 use Rattle.sheet.specs.Sheets.{content}
 use Rattle.sheet.proofs.Passing.{pass-set, pass-inserted, pass-removed}
@@ -45,15 +43,6 @@ owed c k rs p e f = (ap (λ (us : List Row). rising (numbers-of us)) e ∙ k .so
 
 pub none-kept : (p : ℕ) → paced p ≡ true → Kept (record { rows = []; pace = p })
 none-kept p h = record { sorted = refl; kept = refl; steady = h; possible = none-play p }
-
--- where no question gets a no, each got a yes
-pub all-yes : (qs : List Question) → first-no qs ≡ None → All (λ q. q .yes ≡ true) qs
-all-yes [] e = tt
-all-yes (q ∷ qs) e = go (q .yes) refl e (λ d. all-yes qs d)
-  where
-    go : (b : Bool) → q .yes ≡ b → cond b (first-no qs) (Some (q .number)) ≡ None → (first-no qs ≡ None → All (λ q. q .yes ≡ true) qs) → (q .yes ≡ true) × All (λ q. q .yes ≡ true) qs
-    go true y d ih = (y, ih d)
-    go false y d ih = let z : _≡_ {A = ℕ} 0 1 = cc in absurd (omega arith)
 
 module _ (c : Content) (k : Kept c) where
   pub enter-keeps : (g : ℕ) (e l : ℤ) → verdict c (Enter g e l) 0 ≡ None → Kept (change-made (Enter g e l) c)
@@ -122,8 +111,3 @@ module _ (c : Content) (k : Kept c) where
         steady = k .steady;
         possible = decided (record { rows = removed rs i; pace = c .pace }) (k .steady) (fewer-play c i (placed g rs (y .0)) (plays c (k .steady) (k .possible)));
       }
-
-  pub pace-keeps : (p : ℕ) → verdict c (Pace p) 0 ≡ None → Kept (change-made (Pace p) c)
-  pace-keeps p v =
-      let y = all-yes (questions c (Pace p) 0) v in
-      record { sorted = k .sorted; kept = k .kept; steady = y .0; possible = y .1 .0 }

@@ -28,11 +28,11 @@ use Rattle.sheet.specs.Content.{Content, place, row, windows-of, numbers-of, p
 use Rattle.sheet.specs.Calls.{Through, change-made}
 use Rattle.sheet.specs.Questions.{answered, verdict, q-time, q-on, q-inside, q-list, q-order}
 use Rattle.sheet.proofs.Ascending.{numbers-kept}
-use Rattle.sheet.proofs.Keeping.{Kept, all-yes}
+use Rattle.field.proofs.In-a-row.{all-yes, no-later}
+use Rattle.sheet.proofs.Keeping.{Kept}
 use Rattle.sheet.proofs.Passing.{pass-set}
 use Rattle.sheet.proofs.Soundness.{not-refused}
 use Rattle.sheet.proofs.Stepping.{sound-row, held-sound}
-use Rattle.sheet.proofs.Stopping.{no-later}
 
 -- what is left to ask of rows that no question of a field refuses: 12 and 13
 module _ {X : Type 0} (rs : List Row) (p : ℕ) (room : ℕ) (g : List Span → List X) where

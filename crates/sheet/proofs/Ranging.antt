@@ -1,9 +1,9 @@
 -- The range of a group on a sheet, by the range of its place in the rows.
-use mathlib.Core.Path.{_≡_, refl, sym, ap, _∙_}
-use mathlib.Core.Bool.{true, cond}
+use mathlib.Core.Path.{_≡_, sym, ap, _∙_}
+use mathlib.Core.Bool.{true}
 use mathlib.Core.List.{[], _∷_}
 use mathlib.Core.Logic.{inl, inr}
-use Prim.Native.Nat.{ℕ, _≤_, _<_}
+use Prim.Native.Nat.{ℕ, _≤_}
 use native.Mathlib.Omega.{arith}
 use lib.Dec.{ltb}
 use lib.ListN.{length}
@@ -15,18 +15,16 @@ use Rattle.std.specs.declared.option.Option.the-variants.{Some, None}
 use Rattle.std.specs.declared.result.Result.{Result}
 use Rattle.std.specs.declared.result.Result.the-variants.{Ok, Err}
 use Rattle.field.specs.declared.refusal.Refusal.{Refusal}
-use Rattle.field.specs.Refusals.{number-of, question, first-no}
+use Rattle.field.specs.Refusals.{question, first-no}
 use Rattle.reckoning.specs.declared.ends.Range.{Range}
 use Rattle.reckoning.specs.Questions.{questions}
 use Rattle.reckoning.specs.Range.{placed, Range-told}
 use Rattle.sheet.specs.Standings.{counts}
 use Rattle.sheet.specs.Sound.{sound}
 use Rattle.sheet.specs.Content.{Content, place, on, paced, windows-of, Playable}
-use Rattle.sheet.specs.Calls.{RangeOf}
-use Rattle.sheet.specs.Questions.{verdict}
 use Rattle.sheet.specs.Ranges.{Group-told}
 use Rattle.sheet.proofs.Soundness.{not-refused}
-use Rattle.sheet.proofs.Stopping.{no-later}
+use Rattle.field.proofs.In-a-row.{no-later}
 
 module _ (c : Content) (g : ℕ) (steady : paced (c .pace) ≡ true) (few : length (c .rows) ≤ 64) (kept : all-pass sound (c .rows) ≡ true) (plays : Playable c) (on-it : on g (c .rows) ≡ true) where
   -- its place passes the questions of the field

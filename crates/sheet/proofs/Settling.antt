@@ -1,9 +1,9 @@
 -- What the tests decide is what the questions of the book ask, 13 by the existence of an order of play.
 use mathlib.Core.Path.{_≡_, refl, sym, ap, subst, _∙_}
-use mathlib.Core.Bool.{Bool, true, false, cond, _&&_}
+use mathlib.Core.Bool.{Bool, true, false, cond}
 use mathlib.Core.List.{List, [], _∷_, _++_}
-use mathlib.Core.Logic.{_⊎_, inl, inr}
-use Prim.Native.Nat.{ℕ, _<_, _≤_}
+use mathlib.Core.Logic.{inl, inr}
+use Prim.Native.Nat.{ℕ, _<_}
 use native.Mathlib.Omega.{arith}
 use lib.Dec.{leb, ltb, eqb}
 use Rattle.std.specs.shelf.Lists.{All}
@@ -11,15 +11,14 @@ use Rattle.std.proofs.shelf.Elements.{all-weaker, kept-by-passes}
 use Rattle.std.proofs.shelf.Tests.{and-parts, both-ways, eqb-true, leb-true, ltb-true, false≢true}
 use Rattle.std.specs.declared.option.Option.{Option}
 use Rattle.std.specs.declared.option.Option.the-variants.{Some, None}
-use Rattle.field.specs.Refusals.{Question, question, first-no}
-use Rattle.sheet.specs.Content.{Content, paced, playable, Playable}
+use Rattle.field.specs.Refusals.{Question, first-no}
+use Rattle.sheet.specs.Content.{paced, playable, Playable}
 use Rattle.sheet.specs.Calls.{Call, Enter, Change, Withdraw, Pace, CallUp, StandDown, SendAway, Open, Keep, Back, Order, Through, RangeOf, Spans, change-made}
 use Rattle.sheet.specs.Questions.{q-order, q-pace, before-13}
-use Rattle.sheet.specs.Trials.{Held, Kind, joins, departs, opens, keeps, backs, tells, kind, q-no-trial, q-slip, trial-questions, asked, decision}
+use Rattle.sheet.specs.Trials.{Held, Kind, joins, departs, opens, keeps, backs, tells, q-no-trial, q-slip, trial-questions, asked, decision}
 use Rattle.sheet.specs.Book.{Lists, room, earlier, Reckons, Passes, First-no}
 use Rattle.sheet.proofs.Playing.{plays, decided}
-use Rattle.sheet.proofs.Keeping.{all-yes}
-use Rattle.sheet.proofs.Stopping.{no-later, no-stays}
+use Rattle.field.proofs.In-a-row.{all-yes, no-later, no-stays}
 use Rattle.sheet.proofs.Striking.{Trials-fit}
 
 never : {X : Type 0} → false ≡ true → X
@@ -32,14 +31,6 @@ pub same-some : {m n : ℕ} → Some m ≡ Some n → m ≡ n
 same-some e = cc
 
 -- ---- questions in a row
-
-none-both : (qs more : List Question) → first-no (qs ++ more) ≡ None → (first-no qs ≡ None) × (first-no more ≡ None)
-none-both [] more e = (refl, e)
-none-both (q ∷ qs) more e = go (q .yes) e (λ d. none-both qs more d)
-  where
-    go : (b : Bool) → cond b (first-no (qs ++ more)) (Some (q .number)) ≡ None → (first-no (qs ++ more) ≡ None → (first-no qs ≡ None) × (first-no more ≡ None)) → (cond b (first-no qs) (Some (q .number)) ≡ None) × (first-no more ≡ None)
-    go true d ih = ih d
-    go false d ih = none-some (sym d)
 
 -- the number of a no is one of theirs
 no-among : (P : ℕ → Type 0) (qs : List Question) (n : ℕ) → All (λ q. P (q .number)) qs → first-no qs ≡ Some n → P n

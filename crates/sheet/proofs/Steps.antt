@@ -2,21 +2,20 @@
 use mathlib.Core.Path.{_≡_, refl, sym, ap, subst, _∙_}
 use mathlib.Core.List.{List}
 use Prim.Native.Nat.{ℕ}
-use lib.IntN.{ℤ}
 use Rattle.std.specs.Options.{valueOr}
 use Rattle.std.specs.declared.option.Option.{Option}
 use Rattle.std.specs.declared.option.Option.the-variants.{Some, None}
 use Rattle.std.specs.declared.result.Result.{Result}
 use Rattle.std.specs.declared.result.Result.the-variants.{Ok, Err}
 use Rattle.field.specs.declared.refusal.Refusal.{Refusal}
-use Rattle.field.specs.Refusals.{number-of, by-number}
+use Rattle.field.specs.Refusals.{by-number}
 use Rattle.theory.specs.declared.span.Span.{Span}
 use Rattle.reckoning.specs.declared.ends.Range.{Range}
 use Rattle.reckoning.specs.declared.start.Start.{Start}
 use Rattle.reckoning.specs.Lists.{answer, leaves}
 use Rattle.sheet.specs.declared.sheet.Sheet.{Sheet}
 use Rattle.sheet.specs.declared.sheet.trial.Slip.{Slip}
-use Rattle.sheet.specs.Content.{Content, spans-of}
+use Rattle.sheet.specs.Content.{spans-of}
 use Rattle.sheet.specs.Calls.{Call, Open, Keep, Back, RangeOf, Spans, change-made}
 use Rattle.sheet.specs.Questions.{after, answered, verdict}
 use Rattle.sheet.specs.Trials.{kind, decision}
@@ -26,7 +25,7 @@ use Rattle.sheet.specs.Answers.{Said, done, slip, count, range, refusal, refus
 use Rattle.sheet.specs.Book.{Lists, no-lists, room, Fills-starts, Told}
 use Rattle.sheet.specs.Law.{Goes-on}
 use Rattle.sheet.proofs.Striking.{moved, remembered}
-use Rattle.sheet.proofs.Extending.{Outcome, Step, goes-on}
+use Rattle.sheet.proofs.Extending.{Outcome, goes-on}
 
 -- the call asked for is the call made
 by-outcome : (s t : Sheet) (asked call : Call) (given left : Lists) (a : Said) → asked ≡ call → t .number ≡ s .number → Outcome (decision (holds s) call (room call given)) s call given a left t → Goes-on s asked given a left t

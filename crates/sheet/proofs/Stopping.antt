@@ -1,6 +1,6 @@
 -- Questions in a row: where they stop, and what it takes to pass them all.
 use mathlib.Core.Path.{_≡_, refl, sym, ap, subst, _∙_}
-use mathlib.Core.Bool.{Bool, true, false, cond}
+use mathlib.Core.Bool.{Bool, true, false}
 use mathlib.Core.List.{List, [], _∷_, _++_}
 use Prim.Native.Nat.{ℕ}
 use native.Mathlib.Omega.{arith}
@@ -11,26 +11,9 @@ use Rattle.std.specs.declared.option.Option.the-variants.{Some, None}
 use Rattle.std.specs.declared.result.Result.{Result}
 use Rattle.std.specs.declared.result.Result.the-variants.{Ok, Err}
 use Rattle.field.specs.declared.refusal.Refusal.{Refusal}
+use Rattle.field.proofs.In-a-row.{no-stays, no-later}
 use Rattle.field.specs.Refusals.{number-of, by-number, Question, question, first-no}
 use Rattle.sheet.specs.Questions.{answered}
-
--- a no decides, whatever is asked after it
-pub no-stays : (qs more : List Question) (n : ℕ) → first-no qs ≡ Some n → first-no (qs ++ more) ≡ Some n
-no-stays [] more n e = let z : _≡_ {A = ℕ} 0 1 = cc in absurd (omega arith)
-no-stays (q ∷ qs) more n e = go (q .yes) e (λ d. no-stays qs more n d)
-  where
-    go : (b : Bool) → cond b (first-no qs) (Some (q .number)) ≡ Some n → (first-no qs ≡ Some n → first-no (qs ++ more) ≡ Some n) → cond b (first-no (qs ++ more)) (Some (q .number)) ≡ Some n
-    go true d ih = ih d
-    go false d ih = d
-
--- with no no so far, what comes after decides
-pub no-later : (qs more : List Question) → first-no qs ≡ None → first-no (qs ++ more) ≡ first-no more
-no-later [] more e = refl
-no-later (q ∷ qs) more e = go (q .yes) e (λ d. no-later qs more d)
-  where
-    go : (b : Bool) → cond b (first-no qs) (Some (q .number)) ≡ None → (first-no qs ≡ None → first-no (qs ++ more) ≡ first-no more) → cond b (first-no (qs ++ more)) (Some (q .number)) ≡ first-no more
-    go true d ih = ih d
-    go false d ih = let z : _≡_ {A = ℕ} 0 1 = cc in absurd (omega arith)
 
 -- a yes goes on to the next question
 pub yes-then : (q : Question) (qs : List Question) → q .yes ≡ true → first-no qs ≡ None → first-no (q ∷ qs) ≡ None

@@ -17,8 +17,8 @@ use Rattle.sheet.specs.Content.{Content, paced, playable}
 use Rattle.sheet.specs.Calls.{Call, Enter, Change, Pace, CallUp, Through, change-made}
 use Rattle.sheet.specs.Questions.{q-pace, q-room, q-number, q-time, q-times, q-upright, q-on, q-new, q-standing, q-inside, q-list, q-order, questions, verdict, before-13, answered, Thirteen}
 use Rattle.sheet.proofs.Playing.{plays, decided}
-use Rattle.sheet.proofs.Keeping.{all-yes}
-use Rattle.sheet.proofs.Stopping.{no-later, refused-by}
+use Rattle.field.proofs.In-a-row.{all-yes, no-later}
+use Rattle.sheet.proofs.Stopping.{refused-by}
 
 -- where the last of questions in a row is 13 and gives the number, all others are passed and it is a no
 last-decides : (ps : List Question) (b : Bool) → All (λ q. q .number < 13) ps → first-no (ps ++ question 13 b ∷ []) ≡ Some 13 → (first-no ps ≡ None) × (b ≡ false)

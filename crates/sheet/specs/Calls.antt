@@ -1,7 +1,6 @@
 -- The calls on a sheet, and the change that each makes of what the sheet holds.
 use mathlib.Core.List.{List}
 use Prim.Native.Nat.{ℕ}
-use lib.IntN.{ℤ}
 use lib.ListN.{set}
 use Rattle.std.specs.Holes.{removed}
 use Rattle.std.specs.declared.result.Result.{Result}

@@ -1,7 +1,7 @@
 use borrow.Author.Needs.{needs}
 use mathlib.Core.Path.{_≡_, refl, sym, _∙_, ap, subst}
-use mathlib.Core.List.{List, [], _∷_}
-use mathlib.Core.Bool.{Bool, true, false, cond}
+use mathlib.Core.List.{List}
+use mathlib.Core.Bool.{Bool, true, false}
 use native.Mathlib.Omega.{arith}
 use lib.IntN.{pos}
 use lib.ListN.{length}
@@ -17,7 +17,8 @@ use Rattle.std.specs.declared.result.Result.the-variants.{Ok, Err}
 use Rattle.field.specs.declared.refusal.Refusal.{Refusal}
 use Rattle.field.specs.declared.refusal.Refusal.the-variants.{NoOrder}
 use Rattle.field.specs.declared.window.Window.{Window}
-use Rattle.field.specs.Refusals.{by-number, number-of, Question, first-no}
+use Rattle.field.proofs.In-a-row.{no-among}
+use Rattle.field.specs.Refusals.{by-number, number-of}
 use Rattle.theory.specs.declared.span.Span.{Span}
 use Rattle.theory.specs.Orders.{Possible}
 use Rattle.theory.proofs.Deciding.{possible-some, some-possible}
@@ -28,15 +29,6 @@ use Rattle.reckoning.specs.Values.{Timed, Pace}
 use Rattle.reckoning.proofs.Asked.{passed}
 use Rattle.reckoning.proofs.possible.possible.Needs as need
 
--- a no among questions with numbers before 13 has such a number
-no-before : (qs : List Question) (n : ℕ) → All (λ q. q .number < 13) qs → first-no qs ≡ Some n → n < 13
-no-before [] n a e = let z : _≡_ {A = ℕ} 0 1 = cc in absurd (omega arith)
-no-before (q ∷ qs) n a e = go (q .yes) e (λ d. no-before qs n (a .1) d)
-  where
-    go : (b : Bool) → cond b (first-no qs) (Some (q .number)) ≡ Some n → (first-no qs ≡ Some n → n < 13) → n < 13
-    go true d ih = ih d
-    go false d ih = let z : q .number ≡ n = cc in subst (λ k. k < 13) z (a .0)
-
 module _ (p : ℕ) (ws : List Window) where
   -- what is owed on each way out
   record Owed (r : Result (Unit {0}) Refusal) : Type 0 where
@@ -46,7 +38,7 @@ module _ (p : ℕ) (ws : List Window) where
 
   by-question : (r : Result (Unit {0}) Refusal) (q : Refusal) → r ≡ Err q → refused p ws ≡ Some (number-of q) → Owed r
   by-question r q i e =
-      let n = no-before (questions p ws) (number-of q) (omega arith, (omega arith, (omega arith, (omega arith, tt)))) e in
+      let n = no-among (λ k. k < 13) (questions p ws) (number-of q) (omega arith, (omega arith, (omega arith, (omega arith, tt)))) e in
       record {
         answer = ap by-number i ∙ sym (ap (λ a. decided a (mapped (λ _. tt) (forbidden (pos p) ws))) e);
         only = λ h. let z : number-of q ≡ 13 = cc in absurd (omega arith);

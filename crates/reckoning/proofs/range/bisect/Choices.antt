@@ -1,4 +1,3 @@
-use mathlib.Core.Path.{_≡_}
 use Rattle.reckoning.specs.Told.{windows-of}
 use Rattle.reckoning.proofs.Bisecting.{Closing, width}
 use Rattle.reckoning.proofs.range.bisect.Given as given

@@ -1,11 +1,10 @@
 use borrow.Author.Needs.{needs}
-use native.Mathlib.Omega.{arith}
 use mathlib.Core.Path.{sym, _∙_, subst}
 use Prim.Native.Nat.{_≤_}
 use lib.ListN.{length}
 use mir.Syntax.{w64}
 use mir.Val.{toZ, ofZ}
-use Rattle.std.proofs.shelf.Signed.{ints, toZ-ofZ}
+use Rattle.std.proofs.shelf.Signed.{ints}
 use Rattle.std.specs.shelf.Lists.{All}
 use Rattle.reckoning.specs.Values.{Timed}
 use Rattle.reckoning.specs.Told.{windows-of}

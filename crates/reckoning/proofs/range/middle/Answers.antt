@@ -1,9 +1,8 @@
-use borrow.Author.Needs.{needs}
 use native.Mathlib.Omega.{arith}
 use lib.IntN.{_-ℤ_}
 use mir.Syntax.{w64}
 use mir.Val.{toZ, ofZ}
-use Rattle.std.proofs.shelf.Signed.{ints, toZ-ofZ}
+use Rattle.std.proofs.shelf.Signed.{ints}
 use Rattle.reckoning.proofs.Bisecting.{half}
 use Rattle.reckoning.proofs.range.middle.Needs as need
 

@@ -1,9 +1,7 @@
 use borrow.Author.Needs.{needs}
-use native.Mathlib.Omega.{arith}
-use mathlib.Core.Path.{sym, _≡_, ap}
 use lib.ListN.{getD}
 use mir.Syntax.{w64}
-use Rattle.std.proofs.shelf.Signed.{ints, toZ-ofZ}
+use Rattle.std.proofs.shelf.Signed.{toZ-ofZ}
 use Rattle.field.specs.Windows.{outside}
 use Rattle.reckoning.proofs.Bisecting.{cut-is}
 use Rattle.reckoning.proofs.windows.Windows.cut.Needs as need

@@ -22,7 +22,7 @@ use Rattle.sheet.specs.Questions.{answered, q-time, q-on, q-standing, q-inside
 use Rattle.sheet.specs.Sheets.{content}
 use Rattle.sheet.specs.Sound.{sound, within}
 use Rattle.sheet.specs.Standings.{counts, stepped}
-use Rattle.sheet.proofs.Keeping.{all-yes}
+use Rattle.field.proofs.In-a-row.{all-yes}
 use Rattle.sheet.proofs.Stopping.{last-no, last-yes, passed, yes-then}
 use Rattle.sheet.proofs.Stepping.{sound-row, called-sound}
 use Rattle.sheet.proofs.sheet.Sheet.ask_call.Needs as need

@@ -20,7 +20,7 @@ use Rattle.sheet.specs.Content.{playable, row}
 use Rattle.sheet.specs.Questions.{answered, q-on, q-order, q-standing, q-times, q-upright}
 use Rattle.sheet.specs.Sheets.{content}
 use Rattle.sheet.specs.Sound.{sound}
-use Rattle.sheet.proofs.Keeping.{all-yes}
+use Rattle.field.proofs.In-a-row.{all-yes}
 use Rattle.sheet.proofs.Stepping.{sound-row, changed-sound}
 use Rattle.sheet.proofs.Stopping.{last-no, last-yes, of-both, passed, stops, yes-then}
 use Rattle.sheet.proofs.sheet.Sheet.ask_change.Needs as need

@@ -14,7 +14,8 @@ use Rattle.sheet.specs.declared.row.Step.the-variants as step
 use Rattle.sheet.specs.Calls.{CallUp, change-made, stepped-at, with-rows}
 use Rattle.sheet.specs.Questions.{answered, questions, verdict}
 use Rattle.sheet.specs.Sheets.{content}
-use Rattle.sheet.proofs.Keeping.{all-yes, kept-by-sheet, owed, call-keeps}
+use Rattle.field.proofs.In-a-row.{all-yes}
+use Rattle.sheet.proofs.Keeping.{kept-by-sheet, owed, call-keeps}
 use Rattle.sheet.proofs.Outcomes.{Passed, passes, refusal, success}
 use Rattle.sheet.proofs.Stepping.{placed}
 use Rattle.sheet.proofs.Thirteen.{call-13}

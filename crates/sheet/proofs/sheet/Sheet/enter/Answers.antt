@@ -17,7 +17,8 @@ use Rattle.sheet.specs.Content.{place-for}
 use Rattle.sheet.specs.Questions.{answered, questions, verdict}
 use Rattle.sheet.specs.Sheets.{content}
 use Rattle.sheet.specs.Standings.{waiting}
-use Rattle.sheet.proofs.Keeping.{all-yes, kept-by-sheet, owed, enter-keeps}
+use Rattle.field.proofs.In-a-row.{all-yes}
+use Rattle.sheet.proofs.Keeping.{kept-by-sheet, owed, enter-keeps}
 use Rattle.sheet.proofs.Outcomes.{Passed, passes, refusal, success}
 use Rattle.sheet.proofs.Searching.{first-inside}
 use Rattle.sheet.proofs.Stopping.{of-both}

@@ -8,7 +8,7 @@ use mir.Val.{toZ, ofZ}
 use Rattle.theory.specs.declared.span.Span.{Span}
 use Rattle.reckoning.specs.declared.start.Start.{Start}
 use Rattle.sheet.specs.declared.sheet.trial.Slip.{Slip}
-use Rattle.sheet.specs.Calls.{Call, Enter, Change, Withdraw, Pace, CallUp, StandDown, SendAway, Order, Through, change-made}
+use Rattle.sheet.specs.Calls.{Enter, Change, Withdraw, Pace, CallUp, StandDown, SendAway, Order, Through, change-made}
 use Rattle.sheet.specs.Content.{order-of}
 use Rattle.sheet.specs.Sheets.{content}
 use Rattle.sheet.specs.Answers.{done, slip, count, said, said-by, said-back}
