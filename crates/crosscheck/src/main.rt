@@ -16,5 +16,6 @@ fn main(rt: LibcRuntime) -> io::Result<()> {
     sheets::stories(&rt)?;
     sheets::crowds(&rt)?;
     trials::trials(&rt)?;
-    trials::slips(&rt)
+    trials::slips(&rt)?;
+    trials::asked(&rt)
 }

@@ -5,8 +5,15 @@ ghost use mathlib.Core.Path.{_≡_};
 use crate::sheets::Act;
 use crate::sheets::tell_act;
 use crate::sheets::tell_held;
+use crate::telling::no_spans;
+use crate::telling::no_starts;
+use field::Field;
 use field::Refusal;
 use field::RefusalDisplay;
+use reckoning::Range;
+use sheet::Answer;
+use sheet::Request;
+use sheet::RowsField;
 use sheet::Sheet;
 use sheet::Slip;
 use std::io;
@@ -120,4 +127,32 @@ pub fn slips(rt: &LibcRuntime) -> io::Result<()> {
         println!(rt, "  a twin's slip is taken")?;
     }
     trial(rt, &mut one, &[Act::Enter(1, 0, 0)], Ending::Keep)
+}
+
+/// Asks the sheet's one door for the range of a place in a field.
+fn ask<F: Field>(sheet: &mut Sheet, field: &F, place: usize) -> Result<Range, Refusal> {
+    let request = Request::Ask { pace: 480, place };
+    match sheet.serve(request, field, &mut no_starts(), &mut no_spans()) {
+        Answer::Ranged { range } => Ok(range),
+        Answer::Refused { refusal } => Err(refusal),
+        _ => unreachable(),
+    }
+}
+
+/// Ranges of a sheet's own rows, asked as of any field.
+pub fn asked(rt: &LibcRuntime) -> io::Result<()> {
+    let mut sheet = Sheet::blank(rt.alloc(), 1)?;
+    inside(
+        rt,
+        &mut sheet,
+        &[Act::Enter(1, 0, 1000), Act::Enter(2, 100, 300)],
+    );
+    let mut door = Sheet::blank(rt.alloc(), 2)?;
+    for place in 0..3 {
+        match ask(&mut door, &sheet.rows(), place) {
+            Err(refusal) => println!(rt, "rows at {place}: range refused {refusal}")?,
+            Ok(range) => println!(rt, "rows at {place}: range {}..{}", range.first, range.last)?,
+        }
+    }
+    Ok(())
 }
