@@ -1,5 +1,7 @@
 //! Runs the examples of the rules and prints what was told. The gate compares it with `stdout`.
 
+#![tactic(auto)]
+
 mod fields;
 mod sheets;
 mod telling;

@@ -1,5 +1,7 @@
 //! The reckoning of a strip, exported for programs in Rust or C that link `libexports.a`.
 
+#![tactic(auto)]
+
 ghost use Rattle.exports.specs.Outcomes.{outcome};
 ghost use Rattle.field.specs.Refusals.{by_number};
 ghost use Rattle.field.specs.Strip.{records, numbers_of};

@@ -1,5 +1,5 @@
 -- That the times of a field are told when one place is held to a window of two signed 32-bit times.
-use Rattle.std.specs.Prelude.{ℕ, zero, suc, ◌<◌, List, [], ◌∷◌, set, ℤ, pos, negsuc, slice_index_or, slice_set}
+use Rattle.std.specs.Prelude.{ℕ, zero, suc, ◌<◌, List, [], ◌∷◌, ℤ, pos, negsuc, slice_index_or, slice_set}
 use Rattle.std.proofs.Common.{arith}
 use Rattle.std.specs.Int.Signed.{mag}
 use Rattle.std.proofs.lemmas.Int.{ints}

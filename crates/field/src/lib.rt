@@ -4,6 +4,8 @@
 //! adds group numbers, `Strip` reads a field from bytes, and `Reversed`, `Held` and `Lent` are
 //! layers that stand on any field.
 
+#![tactic(auto)]
+
 pub mod held;
 pub mod interface;
 pub mod lent;

@@ -1,6 +1,8 @@
 //! Reckons a strip of groups: reads it from standard input, and prints its closed spans in the order
 //! found and its written order. The pace in seconds is the one argument, 480 where there is none.
 
+#![tactic(auto)]
+
 use field::{Field, Refusal, Strip};
 use reckoning::Start;
 use reckoning::order::order;

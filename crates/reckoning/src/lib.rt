@@ -3,6 +3,8 @@
 //! One reckoning of n groups makes O(n²) look-ups in the closed set, each at most a pass over its
 //! spans, and reads the field once. A first start bisects a window: 18 more reckonings at the most.
 
+#![tactic(auto)]
+
 mod closed;
 pub mod ends;
 mod found;

@@ -3,6 +3,8 @@
 //! `Records` reads a roll record by record, `play` makes its calls on a sheet, `write` writes a sheet
 //! as a roll, and `name_of` finds the name that a roll gives a group.
 
+#![tactic(auto)]
+
 pub mod fault;
 pub mod names;
 pub mod playing;

@@ -3,6 +3,8 @@
 //! `Sheet` is the sheet, `Row` with its `Standing` a group on it, and `Rows` its rows as a field, on
 //! which layers stand.
 
+#![tactic(auto)]
+
 mod bounds;
 pub mod call;
 mod one_more;

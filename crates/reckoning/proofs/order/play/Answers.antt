@@ -13,14 +13,14 @@ use Rattle.reckoning.proofs.order.play.Goals as goal
 pub loop-left-init : goal.loop-left-init
 loop-left-init c = (midway_begin _ (reverse c.args.found.now) c.args.windows.now c.args.out.now _ c.requires.timed c.number.ensures, search rules)
 
-start_is : (c : goal.After-groups-in-loop-left-4·1) → to_z w64 (of_z w64 c.least-outside-start.result) ≡ least_outside (reverse c.args.found.now) (int_max (to_z w64 c.loop-left.time-bits) (least_of (take c.loop-left.left c.loop-left.groups)))
+start_is : (c : goal.After-groups-in-loop-left-4·1) → to_z w64 (of_z w64 c.least_outside-start.result) ≡ least_outside (reverse c.args.found.now) (int_max (to_z w64 c.loop-left.time-bits) (least_of (take c.loop-left.left c.loop-left.groups)))
 start_is c =
     start_read (reverse c.args.found.now) c.loop-left.groups c.loop-left.left _ _ _ _ _ _
-    (real c.least-early-early.result c.least-early-early.type-inv) c.least-early-early.ensures
+    (real c.least_early-early.result c.least_early-early.type-inv) c.least_early-early.ensures
     (real c.released.result c.released.type-inv) c.released.ensures
-    (real c.least-outside-start.result c.least-outside-start.type-inv ∙ c.least-outside-start.ensures)
+    (real c.least_outside-start.result c.least_outside-start.type-inv ∙ c.least_outside-start.ensures)
 
-start_near : (c : goal.After-groups-in-loop-left-4·1) → Near (to_z w64 (of_z w64 c.least-outside-start.result))
+start_near : (c : goal.After-groups-in-loop-left-4·1) → Near (to_z w64 (of_z w64 c.least_outside-start.result))
 start_near c =
     midway_near _ (reverse c.args.found.now) c.args.windows.now c.loop-left.out c.loop-left.done _ (take c.loop-left.left c.loop-left.groups) c.loop-left.left _
     (all_reverse Fit c.args.found.now c.requires.fit) c.loop-left-test.true c.requires.few c.loop-left.invariant.0 (start_is c)
@@ -34,17 +34,17 @@ overflow-add-time c = let n = start_near c in search (rules, ints)
 pub loop-left-smaller : goal.loop-left-smaller
 loop-left-smaller c =
     less_left _ (take c.loop-left.left c.loop-left.groups) _ _ c.loop-left.left c.remove-left.result
-    c.loop-left.invariant.0.size c.loop-left-test.true (chosen_read c.loop-left.groups c.loop-left.left _ _ c.next-at-place.ensures) c.remove-left.ensures.rest (less_is c)
+    c.loop-left.invariant.0.size c.loop-left-test.true (chosen_read c.loop-left.groups c.loop-left.left _ _ c.next_at-place.ensures) c.remove-left.ensures.rest (less_is c)
 
 pub loop-left-preserved : goal.loop-left-preserved
 loop-left-preserved c =
     let P = to_z w64 (of_z w64 c.args.pace) in
-    let U = to_z w64 (of_z w64 c.least-outside-start.result) in
+    let U = to_z w64 (of_z w64 c.least_outside-start.result) in
     let pace : Pace P = search (rules, ints) in
     let n = start_near c in (
-      midway_turn P (reverse c.args.found.now) c.args.windows.now c.loop-left.out c.loop-left.done _ (take c.loop-left.left c.loop-left.groups) c.loop-left.left U _ c.next-at-place.result _ c.remove-left.result
+      midway_turn P (reverse c.args.found.now) c.args.windows.now c.loop-left.out c.loop-left.done _ (take c.loop-left.left c.loop-left.groups) c.loop-left.left U _ c.next_at-place.result _ c.remove-left.result
           pace (all_reverse Fit c.args.found.now c.requires.fit) c.requires.timed c.loop-left-test.true (let f = c.loop-left.invariant.0.fuel in search rules) c.loop-left.invariant.0 (start_is c)
-          (chosen_read c.loop-left.groups c.loop-left.left U _ c.next-at-place.ensures) c.remove-left.ensures.rest (less_is c) (omega (arith, ints, n.0, n.1, pace.0, pace.1)),
+          (chosen_read c.loop-left.groups c.loop-left.left U _ c.next_at-place.ensures) c.remove-left.ensures.rest (less_is c) (omega (arith, ints, n.0, n.1, pace.0, pace.1)),
       search rules,
     )
 

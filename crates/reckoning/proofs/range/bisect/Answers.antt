@@ -32,8 +32,8 @@ middle-mid-requires c =
     let k = c.loop-low.invariant in
     ((omega (arith, ints, k.above), omega (arith, ints, k.below, k.order)), (omega (arith, ints, k.above, k.order), omega (arith, ints, k.below)), ltZ_true _ _ c.loop-low-test.true)
 
-pub is-possible-requires : goal.is-possible-requires
-is-possible-requires c =
+pub is_possible-requires : goal.is_possible-requires
+is_possible-requires c =
     let k = c.loop-low.invariant in
     let m = real c.middle-mid.result c.middle-mid.type-inv in
     let e = c.middle-mid.ensures in
@@ -44,8 +44,8 @@ is-possible-requires c =
       pace = search (rules, ints);
     }
 
-pub loop-low-smaller-then-is-possible : goal.loop-low-smaller-then-is-possible
-loop-low-smaller-then-is-possible c =
+pub loop-low-smaller-then-is_possible : goal.loop-low-smaller-then-is_possible
+loop-low-smaller-then-is_possible c =
     let m = real c.middle-mid.result c.middle-mid.type-inv in
     let e = c.middle-mid.ensures in
     narrower _ _ _ _ (omega (arith, ints)) (omega (arith, ints, m, e.0)) (omega (arith, ints, m, e.1)) (inr (omega (arith, ints, m, e.1)))
@@ -59,12 +59,12 @@ loop-low-smaller c =
     let n : to_z w64 (of_z w64 (M +ℤ pos 1)) ≡ M +ℤ pos 1 = omega (arith, ints, k.above, k.below, m, e.0, e.1) in
     narrower _ _ _ _ (omega (arith, ints, n, m, e.0)) (omega (arith, ints, n, m, e.1)) (omega (arith, ints)) (inl (omega (arith, ints, n, m, e.0)))
 
-pub loop-low-preserved-then-is-possible : goal.loop-low-preserved-then-is-possible
-loop-low-preserved-then-is-possible c =
+pub loop-low-preserved-then-is_possible : goal.loop-low-preserved-then-is_possible
+loop-low-preserved-then-is_possible c =
     let m = real c.middle-mid.result c.middle-mid.type-inv in
     let e = c.middle-mid.ensures in
     let one : pos 1 ≤ℤ to_z w64 (of_z w64 c.args.pace) = search (rules, ints) in
-    closing_down _ _ c.args.place _ _ _ one c.loop-low.invariant (omega (arith, ints, m, e.0)) (omega (arith, ints, m, e.1)) (sym c.if-is-possible.ensures)
+    closing_down _ _ c.args.place _ _ _ one c.loop-low.invariant (omega (arith, ints, m, e.0)) (omega (arith, ints, m, e.1)) (sym c.if-is_possible.ensures)
 
 pub loop-low-preserved : goal.loop-low-preserved
 loop-low-preserved c =
@@ -74,7 +74,7 @@ loop-low-preserved c =
     let e = c.middle-mid.ensures in
     let n : to_z w64 (of_z w64 (M +ℤ pos 1)) ≡ M +ℤ pos 1 = omega (arith, ints, k.above, k.below, m, e.0, e.1) in
     let one : pos 1 ≤ℤ to_z w64 (of_z w64 c.args.pace) = search (rules, ints) in
-    closing_up _ _ c.args.place _ _ M one k (omega (arith, ints, m, e.0)) (omega (arith, ints, m, e.1)) _ (sym c.if-is-possible.ensures) n
+    closing_up _ _ c.args.place _ _ M one k (omega (arith, ints, m, e.0)) (omega (arith, ints, m, e.1)) _ (sym c.if-is_possible.ensures) n
 
 pub returns : goal.returns
 returns c =

@@ -21,8 +21,8 @@ loop-early-init c =
       search rules,
     )
 
-pub come-in-requires : goal.come-in-requires
-come-in-requires c =
+pub come_in-requires : goal.come_in-requires
+come_in-requires c =
     let P = to_z w64 (of_z w64 c.args.pace) in
     let ws = c.args.windows.now in
     let pace : Pace P = search (rules, ints) in
@@ -50,10 +50,10 @@ returns-then-m-early c =
     let pace : Pace P = search (rules, ints) in
     let xs = spans_of c.loop-early.closed in
     let vs = c.loop-early.values in
-    let us = c.come-in.new.values in
+    let us = c.come_in.new.values in
     let al = c.loop-early.invariant.0 in
     let n = next_real P ws _ c.in-Some.early (reverse xs) vs al c.in-Some.ensures in
-    let k = subst (λ f. Kept P ws (reverse f) E us) c.found.ensures c.come-in.ensures in
+    let k = subst (λ f. Kept P ws (reverse f) E us) c.found.ensures c.come_in.ensures in
     let e = real c.least-m.result c.least-m.type-inv ∙ c.least-m.ensures ∙ ap (λ z. fold int_min z (lows ws us)) (cap_real P ws _ E (reverse xs) vs pace al n) in
     let h = ltZ_true M E c.if-m-early.true in
     record {
@@ -70,7 +70,7 @@ joining-requires c =
     let pace : Pace P = search (rules, ints) in
     let xs = spans_of c.loop-early.closed in
     let vs = c.loop-early.values in
-    let us = c.come-in.new.values in
+    let us = c.come_in.new.values in
     let al = c.loop-early.invariant.0 in
     let n = next_real P ws _ c.in-Some.early (reverse xs) vs al c.in-Some.ensures in
     let e = real c.least-m.result c.least-m.type-inv ∙ c.least-m.ensures ∙ ap (λ z. fold int_min z (lows ws us)) (cap_real P ws _ E (reverse xs) vs pace al n) in
@@ -92,10 +92,10 @@ loop-early-preserved c =
     let pace : Pace P = search (rules, ints) in
     let xs = spans_of c.loop-early.closed in
     let vs = c.loop-early.values in
-    let us = c.come-in.new.values in
+    let us = c.come_in.new.values in
     let al = c.loop-early.invariant.0 in
     let n = next_real P ws _ c.in-Some.early (reverse xs) vs al c.in-Some.ensures in
-    let k = subst (λ f. Kept P ws (reverse f) E us) c.found.ensures c.come-in.ensures in
+    let k = subst (λ f. Kept P ws (reverse f) E us) c.found.ensures c.come_in.ensures in
     let e = real c.least-m.result c.least-m.type-inv ∙ c.least-m.ensures ∙ ap (λ z. fold int_min z (lows ws us)) (cap_real P ws _ E (reverse xs) vs pace al n) in
     let h = ltZ_false M E c.if-m-early.false in
     (turned_on P pace ws c.requires.timed _ E M xs (spans_of c.join.new.self) c.joining.result vs us al n k e h c.joining.ensures c.join.ensures, search rules)

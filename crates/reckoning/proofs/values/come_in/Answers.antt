@@ -10,8 +10,8 @@ pub loop-g-init : goal.loop-g-init
 loop-g-init c =
     partly_same c.args.pace _ c.args.windows.now (reverse c.args.found.now) 0 c.args.early _ c.args.values.now (sym (to_z-of_z w64 c.args.pace c.ranges.pace)) (sym (to_z-of_z w64 c.args.early c.ranges.early)) (partly_none _ _ _ _ _ c.requires.kept)
 
-pub move-back-requires : goal.move-back-requires
-move-back-requires c = record {
+pub move_back-requires : goal.move_back-requires
+move_back-requires c = record {
   room = search rules;
   pace = search (rules, ints);
   falling = c.requires.falling;
@@ -30,7 +30,7 @@ loop-g-preserved c =
           subst
           (Partly _ ws f (c.loop-g.g + 1) _)
           (sym w.values-is)
-          (partly_here _ ws f c.loop-g.g _ c.loop-g.values _ c.loop-g-test.true (sym e ∙ ap (to_z w64) w.if-windows-g.true) c.loop-g.invariant w.move-back.ensures)
+          (partly_here _ ws f c.loop-g.g _ c.loop-g.values _ c.loop-g-test.true (sym e ∙ ap (to_z w64) w.if-windows-g.true) c.loop-g.invariant w.move_back.ensures)
       | else-windows-g w ↦
           subst
           (Partly _ ws f (c.loop-g.g + 1) _)

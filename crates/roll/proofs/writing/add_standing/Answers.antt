@@ -14,8 +14,8 @@ add-requires-in-Away-2 c =
     let r = c.args.row in
     let whole = ap (λ (s : Standing). length (standing_records s r.number)) c.in-Away.is in
     let two = ap length c.add-in-Away.ensures in
-    let both = length-append (text c.args.page.now) c.call-record-in-Away.result in
-    let call = ap length c.call-record-in-Away.ensures in
+    let both = length-append (text c.args.page.now) c.call_record-in-Away.result in
+    let call = ap length c.call_record-in-Away.ensures in
     let away = ap length c.away_record.ensures in
     omega (arith, c.requires)
 
@@ -27,7 +27,7 @@ returns-in-Away c =
     let same : passed t ≡ t = search rules in
     c.add-in-Away-2.ensures
     ∙ ap (λ (x : List ℕ). x ++ c.away_record.result) c.add-in-Away.ensures
-    ∙ append_assoc page c.call-record-in-Away.result c.away_record.result
-    ∙ ap (λ (x : List ℕ). page ++ (x ++ c.away_record.result)) c.call-record-in-Away.ensures
+    ∙ append_assoc page c.call_record-in-Away.result c.away_record.result
+    ∙ ap (λ (x : List ℕ). page ++ (x ++ c.away_record.result)) c.call_record-in-Away.ensures
     ∙ ap (λ (x : List ℕ). page ++ (call_record r.number (passed t) ++ x)) c.away_record.ensures
     ∙ ap (λ (s : Standing). page ++ standing_records s r.number) (sym (c.in-Away.is ∙ ap Away (sym same)))

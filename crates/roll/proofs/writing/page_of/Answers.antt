@@ -7,8 +7,8 @@ use Rattle.roll.proofs.Adding.{added_length}
 use Rattle.roll.proofs.Round.{entries_short, stands_short}
 use Rattle.roll.proofs.writing.page_of.Goals as goal
 
-pub add-entries-requires : goal.add-entries-requires
-add-entries-requires c =
+pub add_entries-requires : goal.add_entries-requires
+add_entries-requires c =
     let s = c.args.sheet.now in
     let f = few s in
     let e = entries_short (content s).rows in
@@ -18,8 +18,8 @@ add-entries-requires c =
     let four = ap length c.pace_record.ensures in
     omega arith
 
-pub add-standings-requires : goal.add-standings-requires
-add-standings-requires c =
+pub add_standings-requires : goal.add_standings-requires
+add_standings-requires c =
     let s = c.args.sheet.now in
     let rows = (content s).rows in
     let f = few s in
@@ -29,5 +29,5 @@ add-standings-requires c =
     let mark = added_length (text c.add.new.self) (text c.blank-page.result) heading c.add.ensures in
     let pace = added_length (text c.add-2.new.self) (text c.add.new.self) c.pace_record.result c.add-2.ensures in
     let four = ap length c.pace_record.ensures in
-    let entries = added_length (text c.add-entries.new.page) (text c.add-2.new.self) (joined (map entry rows)) c.add-entries.ensures in
+    let entries = added_length (text c.add_entries.new.page) (text c.add-2.new.self) (joined (map entry rows)) c.add_entries.ensures in
     omega arith

@@ -16,12 +16,12 @@ returns c =
     let before = c.args.list.now in
     let room = length before in
     let bs = written (content s) in
-    let same : fitted (text c.page-of.result) room ≡ fitted bs room = ap (λ (x : List ℕ). fitted x room) c.page-of.ensures in
-    let same-roll = sym (no_trial (holds s) room (sym c.is-in-trial.ensures ∙ c.if-is-in-trial.false)) in
-    let a = c.copy-to.ensures.answer ∙ ap (λ (r : Result (List ℕ) ℕ). answer r) same in
-    let l = c.copy-to.ensures.list ∙ ap (λ (r : Result (List ℕ) ℕ). leaves r before) same in
+    let same : fitted (text c.page_of.result) room ≡ fitted bs room = ap (λ (x : List ℕ). fitted x room) c.page_of.ensures in
+    let same-roll = sym (no_trial (holds s) room (sym c.is_in_trial.ensures ∙ c.if-is_in_trial.false)) in
+    let a = c.copy_to.ensures.answer ∙ ap (λ (r : Result (List ℕ) ℕ). answer r) same in
+    let l = c.copy_to.ensures.list ∙ ap (λ (r : Result (List ℕ) ℕ). leaves r before) same in
     record {
       answer = a ∙ ap (λ (r : Result (List ℕ) ℕ). answer r) same-roll;
       list = l ∙ ap (λ (r : Result (List ℕ) ℕ). leaves r before) same-roll;
-      back = holds_of_written (λ (x : List ℕ). GivesBack x (content s)) c.copy-to.result bs before c.copy-to.new.list room a l (gives_back (content s) (record { few = few s; keeps = kept_by_sheet s }));
+      back = holds_of_written (λ (x : List ℕ). GivesBack x (content s)) c.copy_to.result bs before c.copy_to.new.list room a l (gives_back (content s) (record { few = few s; keeps = kept_by_sheet s }));
     }

@@ -5,7 +5,7 @@ use Rattle.field.proofs.strip.StripNumbered.number.Goals as goal
 pub returns-then-place-self : goal.returns-then-place-self
 returns-then-place-self c =
     record {
-      value = c.from-be-bytes.ensures ∙ sym (number_read _ _ c.if-place-self.true);
+      value = c.from_be_bytes.ensures ∙ sym (number_read _ _ c.if-place-self.true);
       outside = λ h. within_records _ _ c.if-place-self.true h;
     }
 

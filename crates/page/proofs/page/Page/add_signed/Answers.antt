@@ -6,10 +6,10 @@ use Rattle.page.proofs.Adding.{minus, no_minus}
 use Rattle.page.proofs.page.Page.add_signed.Goals as goal
 use Rattle.page.proofs.page.Page.add_signed.Goals.{then-z-lt0, else-z-lt0}
 
-pub add-decimal-requires : goal.add-decimal-requires
-add-decimal-requires c =
+pub add_decimal-requires : goal.add_decimal-requires
+add_decimal-requires c =
     let z = to_z-of_z c.ranges.z in
-    let r : c.unsigned-abs.result ≡ nat_abs c.args.z = c.unsigned-abs.ensures.value ∙ ap nat_abs z in
+    let r : c.unsigned_abs.result ≡ nat_abs c.args.z = c.unsigned_abs.ensures.value ∙ ap nat_abs z in
     let d = ap (λ n. length (decimal n)) r in
     elim c.if-z-lt0.branch [
       | then-z-lt0 w ↦
@@ -24,11 +24,11 @@ add-decimal-requires c =
 pub returns : goal.returns
 returns c =
     let z = to_z-of_z c.ranges.z in
-    let r : c.unsigned-abs.result ≡ nat_abs c.args.z = c.unsigned-abs.ensures.value ∙ ap nat_abs z in
+    let r : c.unsigned_abs.result ≡ nat_abs c.args.z = c.unsigned_abs.ensures.value ∙ ap nat_abs z in
     elim c.if-z-lt0.branch [
       | then-z-lt0 w ↦
           let s = minus c.args.z (ap (λ y. lt_z y (pos 0)) (sym z) ∙ w.if-z-lt0.true) in
-          let e = append_assoc (text c.args.self.now) (45 ∷ []) (decimal c.unsigned-abs.result) in
+          let e = append_assoc (text c.args.self.now) (45 ∷ []) (decimal c.unsigned_abs.result) in
           cc
       | else-z-lt0 w ↦
           let s = no_minus c.args.z (ap (λ y. lt_z y (pos 0)) (sym z) ∙ w.if-z-lt0.false) in

@@ -15,7 +15,7 @@ use Rattle.field.proofs.InARow.{all_yes}
 use Rattle.sheet.proofs.Stopping.{last_no, last_yes, passed, yes_then}
 use Rattle.sheet.proofs.Stepping.{sound_row, called_sound}
 use Rattle.sheet.proofs.sheet.Sheet.ask_call.Goals as goal
-use Rattle.sheet.proofs.sheet.Sheet.ask_call.Goals.{Else-not-is-within}
+use Rattle.sheet.proofs.sheet.Sheet.ask_call.Goals.{Else-not-is_within}
 
 -- what is known once the time is found inside the window that counts
 record Known (s : Sheet) (g : ℕ) (t : ℤ) (i : ℕ) (r : Row) : Type 0 where
@@ -26,7 +26,7 @@ record Known (s : Sheet) (g : ℕ) (t : ℤ) (i : ℕ) (r : Row) : Type 0 where
   at : i ≡ place g (content s).rows
   same : r ≡ made_or (row g (content s).rows) (stepped (row g (content s).rows) (step.CallUp t))
 
-known : (c : Else-not-is-within) → Known c.args.self.now c.args.number c.args.time c.in-ok-place.place c.in-ok-place.row
+known : (c : Else-not-is_within) → Known c.args.self.now c.args.number c.args.time c.in-ok-place.place c.in-ok-place.row
 known c =
     let rs = (content c.args.self.now).rows in
     let g = c.args.number in
@@ -58,8 +58,8 @@ asked s g t i r k =
 tried : (s : Sheet) (g : ℕ) (t : ℤ) (i : ℕ) (r : Row) → Known s g t i r → playable (set (content s).rows i r) s.pace ≡ playable (step_of g (step.CallUp t) (content s).rows) s.pace
 tried s g t i r k = λ j. playable (set (content s).rows (k.at j) (k.same j)) s.pace
 
-pub plays-with-requires : goal.plays-with-requires
-plays-with-requires c =
+pub plays_with-requires : goal.plays_with-requires
+plays_with-requires c =
     let s = c.args.self.now in
     let rs = (content s).rows in
     let g = c.args.number in
@@ -67,14 +67,14 @@ plays-with-requires c =
     let k = known c in
     ap sound k.same ∙ called_sound (row g rs) t (sound_row g rs k.eight s.kept) k.eleven k.ten
 
-pub returns-then-not-plays-with : goal.returns-then-not-plays-with
-returns-then-not-plays-with c =
+pub returns-then-not-plays_with : goal.returns-then-not-plays_with
+returns-then-not-plays_with c =
     let s = c.args.self.now in
     let rs = (content s).rows in
     let g = c.args.number in
     let t = c.args.time in
-    let k = known (goal.at.returns-then-not-plays-with c).Else-not-is-within in
-    let no = sym (tried s g t _ _ k) ∙ sym c.if-not-plays-with.ensures in
+    let k = known (goal.at.returns-then-not-plays_with c).Else-not-is_within in
+    let no = sym (tried s g t _ _ k) ∙ sym c.if-not-plays_with.ensures in
     last_no (q_time t ∷ q_on g rs ∷ q_standing g (step.CallUp t) rs ∷ q_inside g t rs ∷ []) 13 (playable (step_of g (step.CallUp t) rs) s.pace) (stepped_at g (step.CallUp t) rs) (asked s g t _ _ k) no
 
 pub returns : goal.returns
@@ -83,6 +83,6 @@ returns c =
     let rs = (content s).rows in
     let g = c.args.number in
     let t = c.args.time in
-    let k = known (goal.at.returns c).Else-not-is-within in
-    let yes = sym (tried s g t _ _ k) ∙ sym c.if-not-plays-with.ensures in
+    let k = known (goal.at.returns c).Else-not-is_within in
+    let yes = sym (tried s g t _ _ k) ∙ sym c.if-not-plays_with.ensures in
     last_yes (q_time t ∷ q_on g rs ∷ q_standing g (step.CallUp t) rs ∷ q_inside g t rs ∷ []) 13 (playable (step_of g (step.CallUp t) rs) s.pace) (stepped_at g (step.CallUp t) rs) (asked s g t _ _ k) (c.in-ok-place.place, c.in-ok-place.row) (λ j. (k.at j, k.same j)) yes

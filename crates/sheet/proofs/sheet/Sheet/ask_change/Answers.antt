@@ -46,7 +46,7 @@ known c =
     let y = to_z-of_z w32 l c.ranges.late in
     let new : ℕ × Row = (c.in-ok-place.place, c.in-ok-place.row) in
     let p = passed (first_no (of_group g e l rs)) (stepped_at g (step.Change e l) rs) new (of_both (λ d k. ◌≡◌ {A = Result (ℕ × Row) ℕ} (Ok new) (answered (first_no (of_group g d k rs)) (stepped_at g (step.Change d k) rs))) _ e _ l x y c.in-ok-place.ensures) in
-    let w = all_yes (of_window e l) (window_passed _ e _ l x y c.in-ok-ask-window.ensures) in
+    let w = all_yes (of_window e l) (window_passed _ e _ l x y c.in-ok-ask_window.ensures) in
     record { none = yes_then (q_times e l) (q_upright e l ∷ of_group g e l rs) w.0 (yes_then (q_upright e l) (of_group g e l rs) w.1.0 p.0); same = p.1 }
 
 -- what was tried is the change made
@@ -65,29 +65,29 @@ returns-in-err-place c =
     let q = c.in-err-place.field-0.0 in
     let i : c.from-residual-in-err-place.result ≡ Err q = search rules in
     let refuses = of_both (λ d k. ◌≡◌ {A = Result (ℕ × Row) ℕ} (Err (number_of q)) (answered (first_no (of_group g d k rs)) (stepped_at g (step.Change d k) rs))) _ e _ l x y c.in-err-place.ensures in
-    stops (of_window e l) (of_group g e l rs) (q_order (change_made (Change g e l) (content s)) ∷ []) c.from-residual-in-err-place.result q (stepped_at g (step.Change e l) rs) (stepped_at g (step.Change e l) rs) (window_passed _ e _ l x y c.in-ok-ask-window.ensures) i refuses
+    stops (of_window e l) (of_group g e l rs) (q_order (change_made (Change g e l) (content s)) ∷ []) c.from-residual-in-err-place.result q (stepped_at g (step.Change e l) rs) (stepped_at g (step.Change e l) rs) (window_passed _ e _ l x y c.in-ok-ask_window.ensures) i refuses
 
-pub plays-with-requires : goal.plays-with-requires
-plays-with-requires c =
+pub plays_with-requires : goal.plays_with-requires
+plays_with-requires c =
     let s = c.args.self.now in
     let rs = (content s).rows in
     let g = c.args.number in
     let e = c.args.early in
     let l = c.args.late in
-    let k = known (goal.at.plays-with-requires c).In-ok-place in
+    let k = known (goal.at.plays_with-requires c).In-ok-place in
     let v = all_yes (before g e l rs) k.none in
     let times = and_parts (in_time e) (in_time l) v.0 in
     ap (λ (z : ℕ × Row). sound z.1) k.same ∙ changed_sound (row g rs) e l (sound_row g rs v.1.1.0 s.kept) times.0 times.1 v.1.0 v.1.1.1.0
 
-pub returns-then-not-plays-with : goal.returns-then-not-plays-with
-returns-then-not-plays-with c =
+pub returns-then-not-plays_with : goal.returns-then-not-plays_with
+returns-then-not-plays_with c =
     let s = c.args.self.now in
     let rs = (content s).rows in
     let g = c.args.number in
     let e = c.args.early in
     let l = c.args.late in
-    let k = known (goal.at.returns-then-not-plays-with c).In-ok-place in
-    let lacks = sym (tried s g e l _ k) ∙ sym c.if-not-plays-with.ensures in
+    let k = known (goal.at.returns-then-not-plays_with c).In-ok-place in
+    let lacks = sym (tried s g e l _ k) ∙ sym c.if-not-plays_with.ensures in
     last_no (before g e l rs) 13 (playable (step_of g (step.Change e l) rs) s.pace) (stepped_at g (step.Change e l) rs) k.none lacks
 
 pub returns : goal.returns
@@ -98,5 +98,5 @@ returns c =
     let e = c.args.early in
     let l = c.args.late in
     let k = known (goal.at.returns c).In-ok-place in
-    let has = sym (tried s g e l _ k) ∙ sym c.if-not-plays-with.ensures in
+    let has = sym (tried s g e l _ k) ∙ sym c.if-not-plays_with.ensures in
     last_yes (before g e l rs) 13 (playable (step_of g (step.Change e l) rs) s.pace) (stepped_at g (step.Change e l) rs) k.none (c.in-ok-place.place, c.in-ok-place.row) k.same has

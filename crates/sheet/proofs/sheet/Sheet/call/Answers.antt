@@ -38,13 +38,13 @@ returns-in-err-place c =
     let o = refusal k (CallUp g t) (stepped_at g (step.CallUp t) k.rows) c.from-residual.result q i no in
     record { answer = o.answer; held = o.held; saved = refl; number = refl; law = (change_alone s _ (CallUp g t) c.from-residual.result (λ n. refl) (refl, refl) refl refl o.answer o.held refl refl).law; thirteen = call_13 k s.steady c.from-residual.result tt g t o.answer }
 
-pub row-mut-requires : goal.row-mut-requires
-row-mut-requires c =
+pub row_mut-requires : goal.row_mut-requires
+row_mut-requires c =
     let s = c.args.self.now in
     let k = content s in
     let g = c.args.number in
     let t = c.args.time in
-    let p = said (goal.at.row-mut-requires c).In-ok-place in
+    let p = said (goal.at.row_mut-requires c).In-ok-place in
     let y = all_yes (questions k (CallUp g t) 0) p.none in
     let inside = placed g k.rows y.1.0 in
     let at = ap (λ (x : ℕ × Row). x.0) p.value in

@@ -72,8 +72,8 @@ returns-in-CallUp c =
 pub returns-in-StandDown : goal.returns-in-StandDown
 returns-in-StandDown c =
     let s = c.args.self.now in
-    let e = c.stand-down.ensures in
-    let b = change_goes_on s c.stand-down.new.self (StandDown c.in-StandDown.number) (lists c.args.starts.now c.args.spans.now) (said c.finished-in-StandDown.result) (λ n. refl) (refl, refl) refl refl c.args.call c.in-StandDown.is (c.finished-in-StandDown.ensures ∙ ap (said_by (λ (_ : Unit {0}). done)) e.answer) e.held e.saved e.number in
+    let e = c.stand_down.ensures in
+    let b = change_goes_on s c.stand_down.new.self (StandDown c.in-StandDown.number) (lists c.args.starts.now c.args.spans.now) (said c.finished-in-StandDown.result) (λ n. refl) (refl, refl) refl refl c.args.call c.in-StandDown.is (c.finished-in-StandDown.ensures ∙ ap (said_by (λ (_ : Unit {0}). done)) e.answer) e.held e.saved e.number in
     record { step = b.step; law = b.law }
 
 pub returns-in-SendAway : goal.returns-in-SendAway

@@ -28,4 +28,4 @@ returns c =
     let h = c.requires.room in
     let few : length (insert rs i r) ≤ 64 = omega arith in
     let e = c.new.ensures in
-    c.is-ok.ensures.value ∙ tried (insert rs i r) s.pace _ c.possible.result (more_windows rs _ i _ r _ (e.0 ∙ c.rows.ensures) e.1 e.2) c.possible.ensures.answer s.steady few (pass_inserted sound rs i r s.kept c.requires.sound)
+    c.is_ok.ensures.value ∙ tried (insert rs i r) s.pace _ c.possible.result (more_windows rs _ i _ r _ (e.0 ∙ c.rows.ensures) e.1 e.2) c.possible.ensures.answer s.steady few (pass_inserted sound rs i r s.kept c.requires.sound)

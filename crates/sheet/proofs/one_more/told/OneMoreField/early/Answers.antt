@@ -7,4 +7,4 @@ use Rattle.sheet.proofs.one_more.told.OneMoreField.early.Goals as goal
 pub returns : goal.returns
 returns c =
     let s = c.args.self.now in
-    omega (arith, ints, early_told (insert s.rows.now s.place s.row) c.args.place c.row-at.result c.row-at.ensures, c.counts.ensures.early)
+    omega (arith, ints, early_told (insert s.rows.now s.place s.row) c.args.place c.row_at.result c.row_at.ensures, c.counts.ensures.early)
