@@ -15,7 +15,7 @@ loop-i-init c = sym (greatest_none _)
 
 pub loop-i-preserved : goal.loop-i-preserved
 loop-i-preserved c =
-    real c.before-low.result c.before-low.type-inv
+    real c.before-low.result c.before-low.type_inv
     ∙ greatest_step c.args.found.now c.loop-i.i (record { first = pos 0; last = pos 0 }) _ _ _ (search rules) c.requires.falling c.loop-i.invariant c.before-low.ensures
 
 pub returns : goal.returns

@@ -16,7 +16,7 @@ loop-i-init c = grind (arith, to_z-of_z, take_all)
 
 pub loop-i-preserved : goal.loop-i-preserved
 loop-i-preserved c =
-    least_step c.args.found.now c.loop-i.i (record { first = pos 0; last = pos 0 }) _ _ _ c.loop-i-test.true (search rules) c.requires.falling c.loop-i.invariant (real c.after-high.result c.after-high.type-inv ∙ c.after-high.ensures)
+    least_step c.args.found.now c.loop-i.i (record { first = pos 0; last = pos 0 }) _ _ _ c.loop-i-test.true (search rules) c.requires.falling c.loop-i.invariant (real c.after-high.result c.after-high.type_inv ∙ c.after-high.ensures)
 
 pub returns : goal.returns
 returns c =

@@ -15,7 +15,7 @@ use Rattle.reckoning.proofs.order.order.Goals as goal
 pub reckon-requires : goal.reckon-requires
 reckon-requires g c =
     let ws = g.F.Field.windows c.args.field.now in
-    let e = c.in-ok-windows.ensures in
+    let e = c.in_ok-windows.ensures in
     let k = passed c.args.pace ws e.0 in
     let q = sym (c.all-2.ensures ∙ e.1) in
     let p : to_z w64 (of_z w64 c.from.result) ≡ pos c.args.pace = search (rules, ints) in
@@ -28,7 +28,7 @@ reckon-requires g c =
 pub play-count-requires : goal.play-count-requires
 play-count-requires g c =
     let ws = g.F.Field.windows c.args.field.now in
-    let e = c.in-ok-windows.ensures in
+    let e = c.in_ok-windows.ensures in
     let k = passed c.args.pace ws e.0 in
     let q = sym (c.all-in-Some.ensures ∙ e.1) in
     let p : to_z w64 (of_z w64 c.from-in-Some.result) ≡ pos c.args.pace = search (rules, ints) in
@@ -43,15 +43,15 @@ play-count-requires g c =
       fit = subst (All Fit) d s.1;
     }
 
-pub returns-in-err-windows : goal.returns-in-err-windows
-returns-in-err-windows g c =
+pub returns-in_err-windows : goal.returns-in_err-windows
+returns-in_err-windows g c =
     let ws = g.F.Field.windows c.args.field.now in
     let room = length c.args.list.now in
     let ns = g.F.Numbered.numbers c.args.field.now in
     let made : List Span → List Start = λ f. map (start_of ns) (played (pos c.args.pace) f ws) in
-    let q = c.in-err-windows.field-0.0 in
-    let i : c.from-residual.result ≡ Err q = search rules in
-    let o = owed_refused c.args.pace ws room made c.from-residual.result q i c.in-err-windows.ensures c.args.list.now in
+    let q = c.in_err-windows.field-0.0 in
+    let i : c.from_residual.result ≡ Err q = search rules in
+    let o = owed_refused c.args.pace ws room made c.from_residual.result q i c.in_err-windows.ensures c.args.list.now in
     record { answer = o.answer; list = o.list; thirteen = o.thirteen; plays = subst (λ r. IfOk r (λ n. Plays (pos c.args.pace) ws (take n c.args.list.now))) (sym i) tt }
 
 pub returns-in-None : goal.returns-in-None
@@ -59,7 +59,7 @@ returns-in-None g c =
     let ws = g.F.Field.windows c.args.field.now in
     let ns = g.F.Numbered.numbers c.args.field.now in
     let room = length c.args.list.now in
-    let e = c.in-ok-windows.ensures in
+    let e = c.in_ok-windows.ensures in
     let h = subst (λ z. length z ≤ room) (c.all.ensures ∙ e.1) c.if-list-all.false in
     let p : to_z w64 (of_z w64 c.from.result) ≡ pos c.args.pace = search (rules, ints) in
     let f = c.in-None.ensures.told ∙ ap (λ z. forbidden z c.all-2.result.now) p ∙ ap (forbidden (pos c.args.pace)) (c.all-2.ensures ∙ e.1) in
@@ -74,7 +74,7 @@ returns-in-Some g c =
     let room = length c.args.list.now in
     let before = c.args.list.now in
     let xs = spans_of c.in-Some.closed in
-    let e = c.in-ok-windows.ensures in
+    let e = c.in_ok-windows.ensures in
     let h = subst (λ z. length z ≤ room) (c.all.ensures ∙ e.1) c.if-list-all.false in
     let p : to_z w64 (of_z w64 c.from.result) ≡ pos c.args.pace = search (rules, ints) in
     let q : to_z w64 (of_z w64 c.from-in-Some.result) ≡ pos c.args.pace = search (rules, ints) in

@@ -13,23 +13,23 @@ use Rattle.reckoning.proofs.order.play.Goals as goal
 pub loop-left-init : goal.loop-left-init
 loop-left-init c = (midway_begin _ (reverse c.args.found.now) c.args.windows.now c.args.out.now _ c.requires.timed c.number.ensures, search rules)
 
-start_is : (c : goal.After-groups-in-loop-left-4·1) → to_z w64 (of_z w64 c.least_outside-start.result) ≡ least_outside (reverse c.args.found.now) (int_max (to_z w64 c.loop-left.time-bits) (least_of (take c.loop-left.left c.loop-left.groups)))
+start_is : (c : goal.After-groups-in-loop-left-2-1) → to_z w64 (of_z w64 c.least_outside-start.result) ≡ least_outside (reverse c.args.found.now) (int_max (to_z w64 c.loop-left.time-bits) (least_of (take c.loop-left.left c.loop-left.groups)))
 start_is c =
     start_read (reverse c.args.found.now) c.loop-left.groups c.loop-left.left _ _ _ _ _ _
-    (real c.least_early-early.result c.least_early-early.type-inv) c.least_early-early.ensures
-    (real c.released.result c.released.type-inv) c.released.ensures
-    (real c.least_outside-start.result c.least_outside-start.type-inv ∙ c.least_outside-start.ensures)
+    (real c.least_early-early.result c.least_early-early.type_inv) c.least_early-early.ensures
+    (real c.released.result c.released.type_inv) c.released.ensures
+    (real c.least_outside-start.result c.least_outside-start.type_inv ∙ c.least_outside-start.ensures)
 
-start_near : (c : goal.After-groups-in-loop-left-4·1) → Near (to_z w64 (of_z w64 c.least_outside-start.result))
+start_near : (c : goal.After-groups-in-loop-left-2-1) → Near (to_z w64 (of_z w64 c.least_outside-start.result))
 start_near c =
     midway_near _ (reverse c.args.found.now) c.args.windows.now c.loop-left.out c.loop-left.done _ (take c.loop-left.left c.loop-left.groups) c.loop-left.left _
     (all_reverse Fit c.args.found.now c.requires.fit) c.loop-left-test.true c.requires.few c.loop-left.invariant.0 (start_is c)
 
-less_is : (c : goal.After-groups-in-loop-left-4·1) → length (take c.remove-left.result c.remove-left.new.groups) ≡ c.remove-left.result
+less_is : (c : goal.After-groups-in-loop-left-2-1) → length (take c.remove-left.result c.remove-left.new.groups) ≡ c.remove-left.result
 less_is c = length-take-le c.remove-left.result c.remove-left.new.groups (let f = c.loop-left.invariant.0.fuel in search rules)
 
-pub overflow-add-time : goal.overflow-add-time
-overflow-add-time c = let n = start_near c in search (rules, ints)
+pub overflow_add-time : goal.overflow_add-time
+overflow_add-time c = let n = start_near c in search (rules, ints)
 
 pub loop-left-smaller : goal.loop-left-smaller
 loop-left-smaller c =

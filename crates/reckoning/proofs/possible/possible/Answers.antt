@@ -53,7 +53,7 @@ module _ (p : ℕ) (ws : List Window) where
 pub reckon-requires : goal.reckon-requires
 reckon-requires g c =
     let ws = g.F.Field.windows c.args.field.now in
-    let e = c.in-ok-windows.ensures in
+    let e = c.in_ok-windows.ensures in
     let k = passed c.args.pace ws e.0 in
     let q = sym (c.all.ensures ∙ e.1) in
     let p : to_z w64 (of_z w64 c.from.result) ≡ pos c.args.pace = search (rules, ints) in
@@ -63,18 +63,18 @@ reckon-requires g c =
       pace = subst Pace (sym p) k.0;
     }
 
-pub returns-in-err-windows : goal.returns-in-err-windows
-returns-in-err-windows g c =
+pub returns-in_err-windows : goal.returns-in_err-windows
+returns-in_err-windows g c =
     let ws = g.F.Field.windows c.args.field.now in
-    let q = c.in-err-windows.field-0.0 in
-    let i : c.from-residual.result ≡ Err q = search rules in
-    let o = by_question c.args.pace ws c.from-residual.result q i c.in-err-windows.ensures in
+    let q = c.in_err-windows.field-0.0 in
+    let i : c.from_residual.result ≡ Err q = search rules in
+    let o = by_question c.args.pace ws c.from_residual.result q i c.in_err-windows.ensures in
     record { answer = o.answer; thirteen = (o.only, o.always) }
 
 pub returns-in-None : goal.returns-in-None
 returns-in-None g c =
     let ws = g.F.Field.windows c.args.field.now in
-    let e = c.in-ok-windows.ensures in
+    let e = c.in_ok-windows.ensures in
     let p : to_z w64 (of_z w64 c.from.result) ≡ pos c.args.pace = search (rules, ints) in
     let f = c.in-None.ensures.told ∙ ap (λ z. forbidden z c.all.result.now) p ∙ ap (forbidden (pos c.args.pace)) (c.all.ensures ∙ e.1) in
     let o = by_none c.args.pace ws e.0 (sym f) in
@@ -83,7 +83,7 @@ returns-in-None g c =
 pub returns-in-Some : goal.returns-in-Some
 returns-in-Some g c =
     let ws = g.F.Field.windows c.args.field.now in
-    let e = c.in-ok-windows.ensures in
+    let e = c.in_ok-windows.ensures in
     let p : to_z w64 (of_z w64 c.from.result) ≡ pos c.args.pace = search (rules, ints) in
     let f = c.in-Some.ensures.told ∙ ap (λ z. forbidden z c.all.result.now) p ∙ ap (forbidden (pos c.args.pace)) (c.all.ensures ∙ e.1) in
     let o = by_some c.args.pace ws e.0 _ (sym f) in

@@ -35,7 +35,7 @@ middle-mid-requires c =
 pub is_possible-requires : goal.is_possible-requires
 is_possible-requires c =
     let k = c.loop-low.invariant in
-    let m = real c.middle-mid.result c.middle-mid.type-inv in
+    let m = real c.middle-mid.result c.middle-mid.type_inv in
     let e = c.middle-mid.ensures in
     record {
       inside = c.requires.inside;
@@ -46,7 +46,7 @@ is_possible-requires c =
 
 pub loop-low-smaller-then-is_possible : goal.loop-low-smaller-then-is_possible
 loop-low-smaller-then-is_possible c =
-    let m = real c.middle-mid.result c.middle-mid.type-inv in
+    let m = real c.middle-mid.result c.middle-mid.type_inv in
     let e = c.middle-mid.ensures in
     narrower _ _ _ _ (omega (arith, ints)) (omega (arith, ints, m, e.0)) (omega (arith, ints, m, e.1)) (inr (omega (arith, ints, m, e.1)))
 
@@ -54,14 +54,14 @@ pub loop-low-smaller : goal.loop-low-smaller
 loop-low-smaller c =
     let k = c.loop-low.invariant in
     let M = to_z w64 (of_z w64 c.middle-mid.result) in
-    let m = real c.middle-mid.result c.middle-mid.type-inv in
+    let m = real c.middle-mid.result c.middle-mid.type_inv in
     let e = c.middle-mid.ensures in
     let n : to_z w64 (of_z w64 (M +ℤ pos 1)) ≡ M +ℤ pos 1 = omega (arith, ints, k.above, k.below, m, e.0, e.1) in
     narrower _ _ _ _ (omega (arith, ints, n, m, e.0)) (omega (arith, ints, n, m, e.1)) (omega (arith, ints)) (inl (omega (arith, ints, n, m, e.0)))
 
 pub loop-low-preserved-then-is_possible : goal.loop-low-preserved-then-is_possible
 loop-low-preserved-then-is_possible c =
-    let m = real c.middle-mid.result c.middle-mid.type-inv in
+    let m = real c.middle-mid.result c.middle-mid.type_inv in
     let e = c.middle-mid.ensures in
     let one : pos 1 ≤ℤ to_z w64 (of_z w64 c.args.pace) = search (rules, ints) in
     closing_down _ _ c.args.place _ _ _ one c.loop-low.invariant (omega (arith, ints, m, e.0)) (omega (arith, ints, m, e.1)) (sym c.if-is_possible.ensures)
@@ -70,7 +70,7 @@ pub loop-low-preserved : goal.loop-low-preserved
 loop-low-preserved c =
     let k = c.loop-low.invariant in
     let M = to_z w64 (of_z w64 c.middle-mid.result) in
-    let m = real c.middle-mid.result c.middle-mid.type-inv in
+    let m = real c.middle-mid.result c.middle-mid.type_inv in
     let e = c.middle-mid.ensures in
     let n : to_z w64 (of_z w64 (M +ℤ pos 1)) ≡ M +ℤ pos 1 = omega (arith, ints, k.above, k.below, m, e.0, e.1) in
     let one : pos 1 ≤ℤ to_z w64 (of_z w64 c.args.pace) = search (rules, ints) in

@@ -15,7 +15,7 @@ use Rattle.reckoning.proofs.range.first_start.Goals as goal
 pub reckon-requires : goal.reckon-requires
 reckon-requires g c =
     let ws = g.F.Field.windows c.args.field.now in
-    let e = c.in-ok-windows.ensures in
+    let e = c.in_ok-windows.ensures in
     let k = passed c.args.pace ws e.0 in
     let q = sym (c.all-2.ensures ∙ e.1) in
     let p : to_z w64 (of_z w64 c.from.result) ≡ pos c.args.pace = search (rules, ints) in
@@ -28,9 +28,9 @@ reckon-requires g c =
 pub bisect-requires : goal.bisect-requires
 bisect-requires g c =
     let ws = g.F.Field.windows c.args.field.now in
-    let e = c.in-ok-windows.ensures in
+    let e = c.in_ok-windows.ensures in
     let k = passed c.args.pace ws e.0 in
-    let us = windows_of c.in-ok-windows.windows in
+    let us = windows_of c.in_ok-windows.windows in
     let q = sym e.1 in
     let p : to_z w64 (of_z w64 c.from.result) ≡ pos c.args.pace = search (rules, ints) in
     let P = to_z w64 (of_z w64 c.from-in-Some.result) in
@@ -40,30 +40,30 @@ bisect-requires g c =
     let s : is_some (forbidden P us) ≡ true = sym (ap is_some f) in
     let l = subst (λ z. c.args.place < length z) c.all.ensures c.if-place-all.false in
     record {
-      inside = within c.in-ok-windows.windows.list c.in-ok-windows.windows.len c.args.place l;
+      inside = within c.in_ok-windows.windows.list c.in_ok-windows.windows.len c.args.place l;
       timed = subst (All Timed) q k.2;
       upright = upright_at P us c.args.place pace.0 l s;
       pace = pace;
       possible = s;
     }
 
-pub returns-in-err-windows : goal.returns-in-err-windows
-returns-in-err-windows g c =
+pub returns-in_err-windows : goal.returns-in_err-windows
+returns-in_err-windows g c =
     let ws = g.F.Field.windows c.args.field.now in
-    let q = c.in-err-windows.field-0.0 in
-    let i : c.from-residual.result ≡ Err q = search rules in
-    subst (FirstTold c.args.pace ws c.args.place) (sym i) (by_question c.args.pace ws c.args.place q c.in-err-windows.ensures)
+    let q = c.in_err-windows.field-0.0 in
+    let i : c.from_residual.result ≡ Err q = search rules in
+    subst (FirstTold c.args.pace ws c.args.place) (sym i) (by_question c.args.pace ws c.args.place q c.in_err-windows.ensures)
 
 pub returns-then-place-all : goal.returns-then-place-all
 returns-then-place-all g c =
     let ws = g.F.Field.windows c.args.field.now in
-    let e = c.in-ok-windows.ensures in
+    let e = c.in_ok-windows.ensures in
     by_place c.args.pace ws c.args.place e.0 (subst (λ z. length z ≤ c.args.place) (c.all.ensures ∙ e.1) c.if-place-all.true)
 
 pub returns-in-None : goal.returns-in-None
 returns-in-None g c =
     let ws = g.F.Field.windows c.args.field.now in
-    let e = c.in-ok-windows.ensures in
+    let e = c.in_ok-windows.ensures in
     let p : to_z w64 (of_z w64 c.from.result) ≡ pos c.args.pace = search (rules, ints) in
     let f = c.in-None.ensures.told ∙ ap (λ z. forbidden z c.all-2.result.now) p ∙ ap (forbidden (pos c.args.pace)) (c.all-2.ensures ∙ e.1) in
     let l = subst (λ z. c.args.place < length z) (c.all.ensures ∙ e.1) c.if-place-all.false in
@@ -72,10 +72,10 @@ returns-in-None g c =
 pub returns-in-Some : goal.returns-in-Some
 returns-in-Some g c =
     let ws = g.F.Field.windows c.args.field.now in
-    let e = c.in-ok-windows.ensures in
+    let e = c.in_ok-windows.ensures in
     let l = subst (λ z. c.args.place < length z) (c.all.ensures ∙ e.1) c.if-place-all.false in
     let r : to_z w64 (of_z w64 c.from-in-Some.result) ≡ pos c.args.pace = search (rules, ints) in
-    let x = real c.bisect.result c.bisect.type-inv in
+    let x = real c.bisect.result c.bisect.type_inv in
     let told = subst (λ z. First (to_z w64 (of_z w64 c.from-in-Some.result)) z c.args.place c.bisect.result) e.1 c.bisect.ensures in (
       placed_none c.args.pace ws c.args.place e.0 l,
       subst (First (pos c.args.pace) ws c.args.place) (sym x) (subst (λ z. First z ws c.args.place c.bisect.result) r told),

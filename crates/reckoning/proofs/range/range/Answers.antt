@@ -5,31 +5,31 @@ use Rattle.reckoning.specs.Range.{RangeTold}
 use Rattle.reckoning.proofs.Placed.{first_near, last_told, refused_turned, neg_real, real_time}
 use Rattle.reckoning.proofs.range.range.Goals as goal
 
-pub overflow-sub-result : goal.overflow-sub-result
-overflow-sub-result g c =
-    let n = first_near c.args.pace _ c.args.place c.in-ok-turned.turned c.in-ok-turned.ensures in
+pub overflow_sub-result : goal.overflow_sub-result
+overflow_sub-result g c =
+    let n = first_near c.args.pace _ c.args.place c.in_ok-turned.turned c.in_ok-turned.ensures in
     search (rules, ints)
 
-pub returns-in-err-first : goal.returns-in-err-first
-returns-in-err-first g c =
+pub returns-in_err-first : goal.returns-in_err-first
+returns-in_err-first g c =
     let ws = g.F.Field.windows c.args.field.now in
-    let i : c.from-residual.result ≡ Err c.in-err-first.field-0.0 = search rules in
-    record { exact = subst (RangeTold c.args.pace ws c.args.place) (sym i) c.in-err-first.ensures }
+    let i : c.from_residual.result ≡ Err c.in_err-first.field-0.0 = search rules in
+    record { exact = subst (RangeTold c.args.pace ws c.args.place) (sym i) c.in_err-first.ensures }
 
-pub returns-in-err-turned : goal.returns-in-err-turned
-returns-in-err-turned g c =
+pub returns-in_err-turned : goal.returns-in_err-turned
+returns-in_err-turned g c =
     let ws = g.F.Field.windows c.args.field.now in
-    let q = c.in-err-turned.field-0.0 in
-    let i : c.from-residual-in-err-turned.result ≡ Err q = search rules in
-    record { exact = subst (RangeTold c.args.pace ws c.args.place) (sym i) (refused_turned c.args.pace ws c.args.place q c.in-err-turned.ensures) }
+    let q = c.in_err-turned.field-0.0 in
+    let i : c.from_residual-in_err-turned.result ≡ Err q = search rules in
+    record { exact = subst (RangeTold c.args.pace ws c.args.place) (sym i) (refused_turned c.args.pace ws c.args.place q c.in_err-turned.ensures) }
 
 pub returns : goal.returns
 returns g c =
     let ws = g.F.Field.windows c.args.field.now in
-    let x = c.in-ok-first.first in
-    let y = c.in-ok-turned.turned in
-    let told = c.in-ok-first.ensures in
-    let back = c.in-ok-turned.ensures in
+    let x = c.in_ok-first.first in
+    let y = c.in_ok-turned.turned in
+    let told = c.in_ok-first.ensures in
+    let back = c.in_ok-turned.ensures in
     let m = first_near c.args.pace ws c.args.place x told in
     let n = first_near c.args.pace _ c.args.place y back in
     record {

@@ -54,7 +54,7 @@ returns-then-m-early c =
     let al = c.loop-early.invariant.0 in
     let n = next_real P ws _ c.in-Some.early (reverse xs) vs al c.in-Some.ensures in
     let k = subst (λ f. Kept P ws (reverse f) E us) c.found.ensures c.come_in.ensures in
-    let e = real c.least-m.result c.least-m.type-inv ∙ c.least-m.ensures ∙ ap (λ z. fold int_min z (lows ws us)) (cap_real P ws _ E (reverse xs) vs pace al n) in
+    let e = real c.least-m.result c.least-m.type_inv ∙ c.least-m.ensures ∙ ap (λ z. fold int_min z (lows ws us)) (cap_real P ws _ E (reverse xs) vs pace al n) in
     let h = ltZ_true M E c.if-m-early.true in
     record {
       told = sym (subst (λ z. forbidden z ws ≡ None) (to_z-of_z w64 c.args.pace c.ranges.pace) (failing P pace ws c.requires.timed _ E M (reverse xs) vs us al n k e h));
@@ -73,7 +73,7 @@ joining-requires c =
     let us = c.come_in.new.values in
     let al = c.loop-early.invariant.0 in
     let n = next_real P ws _ c.in-Some.early (reverse xs) vs al c.in-Some.ensures in
-    let e = real c.least-m.result c.least-m.type-inv ∙ c.least-m.ensures ∙ ap (λ z. fold int_min z (lows ws us)) (cap_real P ws _ E (reverse xs) vs pace al n) in
+    let e = real c.least-m.result c.least-m.type_inv ∙ c.least-m.ensures ∙ ap (λ z. fold int_min z (lows ws us)) (cap_real P ws _ E (reverse xs) vs pace al n) in
     let h = ltZ_false M E c.if-m-early.false in
     record { near = near_all P _ E M pace n.over n.under al.high (capped_high P E M (lows ws us) e) h }
 
@@ -96,7 +96,7 @@ loop-early-preserved c =
     let al = c.loop-early.invariant.0 in
     let n = next_real P ws _ c.in-Some.early (reverse xs) vs al c.in-Some.ensures in
     let k = subst (λ f. Kept P ws (reverse f) E us) c.found.ensures c.come_in.ensures in
-    let e = real c.least-m.result c.least-m.type-inv ∙ c.least-m.ensures ∙ ap (λ z. fold int_min z (lows ws us)) (cap_real P ws _ E (reverse xs) vs pace al n) in
+    let e = real c.least-m.result c.least-m.type_inv ∙ c.least-m.ensures ∙ ap (λ z. fold int_min z (lows ws us)) (cap_real P ws _ E (reverse xs) vs pace al n) in
     let h = ltZ_false M E c.if-m-early.false in
     (turned_on P pace ws c.requires.timed _ E M xs (spans_of c.join.new.self) c.joining.result vs us al n k e h c.joining.ensures c.join.ensures, search rules)
 
@@ -109,6 +109,6 @@ returns c =
     let vs = c.loop-early.values in
     let al = c.loop-early.invariant.0 in
     record {
-      told = sym (subst (λ z. forbidden z ws ≡ Some (reverse xs)) (to_z-of_z w64 c.args.pace c.ranges.pace) (done P pace ws c.requires.timed _ (reverse xs) vs al c.in-default.ensures));
+      told = sym (subst (λ z. forbidden z ws ≡ Some (reverse xs)) (to_z-of_z w64 c.args.pace c.ranges.pace) (done P pace ws c.requires.timed _ (reverse xs) vs al c.in_default.ensures));
       sound = (al.falling, all_found xs al.fit, found_few P ws _ xs vs al);
     }

@@ -9,7 +9,7 @@ use Rattle.reckoning.proofs.values.move_back.Goals as goal
 pub loop-j-preserved : goal.loop-j-preserved
 loop-j-preserved c = (
   written_more _ c.loop-j.values c.loop-j.j _ (search rules) (
-      real c.moved.result c.moved.type-inv
+      real c.moved.result c.moved.type_inv
       ∙ c.moved.ensures
       ∙ ap
       (λ v. cond (le_z c.args.new.late (window_at c.args.windows.now c.loop-j.j).late) (greatest_outside (reverse c.args.found.now) (v -ℤ to_z w64 (of_z w64 c.args.pace))) v)

@@ -14,13 +14,13 @@ after_floor ws a = All-weaker Timed (λ w. negsuc 86400 <ℤ w.early) (λ w t. o
 
 pub returns-then-top-ltminus86400 : goal.returns-then-top-ltminus86400
 returns-then-top-ltminus86400 c =
-    let e = real c.top_early-top.result c.top_early-top.type-inv in
+    let e = real c.top_early-top.result c.top_early-top.type_inv in
     let h = ltZ_true (to_z w64 (of_z w64 c.top_early-top.result)) (negsuc 86399) c.if-top-ltminus86400.true in
     none_left c.args.windows.now c.args.bound c.top_early-top.result (after_floor c.args.windows.now c.requires.timed) (c.top_early-top.ensures ∙ ap (λ z. head_or (negsuc 86400) (rest c.args.windows.now z)) (to_z-of_z w64 c.args.bound c.ranges.bound)) (omega (arith, ints, e, h))
 
 pub returns-else-top-ltminus86400 : goal.returns-else-top-ltminus86400
 returns-else-top-ltminus86400 c =
-    let e = real c.top_early-top.result c.top_early-top.type-inv in
+    let e = real c.top_early-top.result c.top_early-top.type_inv in
     let h = ltZ_false (to_z w64 (of_z w64 c.top_early-top.result)) (negsuc 86399) c.if-top-ltminus86400.false in
     subst
     (Next c.args.windows.now c.args.bound)

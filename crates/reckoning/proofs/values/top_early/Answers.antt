@@ -13,5 +13,5 @@ loop-i-init c = top_none c.args.windows.now _ (negsuc 86400) _ (omega arith)
 pub loop-i-preserved : goal.loop-i-preserved
 loop-i-preserved c =
     let t = All-get_or Timed c.args.windows.now (c.loop-i.i - 1) outside (search rules) c.requires.timed in
-    real c.later-top.result c.later-top.type-inv
+    real c.later-top.result c.later-top.type_inv
     ∙ top_step c.args.windows.now c.loop-i.i (negsuc 86400) _ _ _ c.loop-i-test.true (search rules) (omega (arith, ints, t.0)) c.loop-i.invariant c.later-top.ensures

@@ -11,4 +11,4 @@ pub loop-row-preserved : goal.loop-row-preserved
 loop-row-preserved c = row_added entry (content c.args.sheet.now).rows (text c.args.page.now) (text c.loop-row.page) c.loop-row.place c.loop-row.invariant c.in-Some.row c.in-Some.ensures c.enter_record.result (text c.add.new.self) c.enter_record.ensures c.add.ensures
 
 pub returns : goal.returns
-returns c = rows_added entry (content c.args.sheet.now).rows (text c.args.page.now) (text c.loop-row.page) c.loop-row.place c.loop-row.invariant c.in-default.ensures
+returns c = rows_added entry (content c.args.sheet.now).rows (text c.args.page.now) (text c.loop-row.page) c.loop-row.place c.loop-row.invariant c.in_default.ensures

@@ -12,4 +12,4 @@ pub loop-row-preserved : goal.loop-row-preserved
 loop-row-preserved c = row_added stand (content c.args.sheet.now).rows (text c.args.page.now) (text c.loop-row.page) c.loop-row.place c.loop-row.invariant c.in-Some.row c.in-Some.ensures (stand c.in-Some.row) (text c.add_standing.new.page) refl c.add_standing.ensures
 
 pub returns : goal.returns
-returns c = rows_added stand (content c.args.sheet.now).rows (text c.args.page.now) (text c.loop-row.page) c.loop-row.place c.loop-row.invariant c.in-default.ensures
+returns c = rows_added stand (content c.args.sheet.now).rows (text c.args.page.now) (text c.loop-row.page) c.loop-row.place c.loop-row.invariant c.in_default.ensures

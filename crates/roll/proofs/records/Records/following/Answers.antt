@@ -13,8 +13,8 @@ returns-then-self c =
     let s = c.args.self.now in
     record { told = read_none s.turn s.place (drop s.place s.roll.now) (drop_all s.place s.roll.now (omega arith)); shorter = tt; turn = omega arith }
 
-pub invariant-of-self : goal.invariant-of-self
-invariant-of-self c =
+pub invariant_of-self : goal.invariant_of-self
+invariant_of-self c =
     let s = c.args.self.now in
     let roll = s.roll.now in
     let inside : s.place < length roll = omega (arith, s.inside) in

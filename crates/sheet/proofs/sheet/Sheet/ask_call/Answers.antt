@@ -26,14 +26,14 @@ record Known (s : Sheet) (g : ℕ) (t : ℤ) (i : ℕ) (r : Row) : Type 0 where
   at : i ≡ place g (content s).rows
   same : r ≡ made_or (row g (content s).rows) (stepped (row g (content s).rows) (step.CallUp t))
 
-known : (c : Else-not-is_within) → Known c.args.self.now c.args.number c.args.time c.in-ok-place.place c.in-ok-place.row
+known : (c : Else-not-is_within) → Known c.args.self.now c.args.number c.args.time c.in_ok-place.place c.in_ok-place.row
 known c =
     let rs = (content c.args.self.now).rows in
     let g = c.args.number in
     let t = c.args.time in
     let x = to_z-of_z w32 t c.ranges.time in
-    let new : ℕ × Row = (c.in-ok-place.place, c.in-ok-place.row) in
-    let stepped = subst (λ (u : ℤ). ◌≡◌ {A = Result (ℕ × Row) ℕ} (Ok new) (answered (first_no (q_on g rs ∷ q_standing g (step.CallUp u) rs ∷ [])) (stepped_at g (step.CallUp u) rs))) x c.in-ok-place.ensures in
+    let new : ℕ × Row = (c.in_ok-place.place, c.in_ok-place.row) in
+    let stepped = subst (λ (u : ℤ). ◌≡◌ {A = Result (ℕ × Row) ℕ} (Ok new) (answered (first_no (q_on g rs ∷ q_standing g (step.CallUp u) rs ∷ [])) (stepped_at g (step.CallUp u) rs))) x c.in_ok-place.ensures in
     let p = passed (first_no (q_on g rs ∷ q_standing g (step.CallUp t) rs ∷ [])) (stepped_at g (step.CallUp t) rs) new stepped in
     let v = all_yes (q_on g rs ∷ q_standing g (step.CallUp t) rs ∷ []) p.0 in
     let at = ap (λ (z : ℕ × Row). z.0) p.1 in
@@ -85,4 +85,4 @@ returns c =
     let t = c.args.time in
     let k = known (goal.at.returns c).Else-not-is_within in
     let yes = sym (tried s g t _ _ k) ∙ sym c.if-not-plays_with.ensures in
-    last_yes (q_time t ∷ q_on g rs ∷ q_standing g (step.CallUp t) rs ∷ q_inside g t rs ∷ []) 13 (playable (step_of g (step.CallUp t) rs) s.pace) (stepped_at g (step.CallUp t) rs) (asked s g t _ _ k) (c.in-ok-place.place, c.in-ok-place.row) (λ j. (k.at j, k.same j)) yes
+    last_yes (q_time t ∷ q_on g rs ∷ q_standing g (step.CallUp t) rs ∷ q_inside g t rs ∷ []) 13 (playable (step_of g (step.CallUp t) rs) s.pace) (stepped_at g (step.CallUp t) rs) (asked s g t _ _ k) (c.in_ok-place.place, c.in_ok-place.row) (λ j. (k.at j, k.same j)) yes

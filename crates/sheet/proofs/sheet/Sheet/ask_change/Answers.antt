@@ -36,7 +36,7 @@ record Known (s : Sheet) (g : ℕ) (e l : ℤ) (new : ℕ × Row) : Type 0 where
   none : first_no (before g e l (content s).rows) ≡ None
   same : new ≡ stepped_at g (step.Change e l) (content s).rows
 
-known : (c : In-ok-place) → Known c.args.self.now c.args.number c.args.early c.args.late (c.in-ok-place.place, c.in-ok-place.row)
+known : (c : In-ok-place) → Known c.args.self.now c.args.number c.args.early c.args.late (c.in_ok-place.place, c.in_ok-place.row)
 known c =
     let rs = (content c.args.self.now).rows in
     let g = c.args.number in
@@ -44,17 +44,17 @@ known c =
     let l = c.args.late in
     let x = to_z-of_z w32 e c.ranges.early in
     let y = to_z-of_z w32 l c.ranges.late in
-    let new : ℕ × Row = (c.in-ok-place.place, c.in-ok-place.row) in
-    let p = passed (first_no (of_group g e l rs)) (stepped_at g (step.Change e l) rs) new (of_both (λ d k. ◌≡◌ {A = Result (ℕ × Row) ℕ} (Ok new) (answered (first_no (of_group g d k rs)) (stepped_at g (step.Change d k) rs))) _ e _ l x y c.in-ok-place.ensures) in
-    let w = all_yes (of_window e l) (window_passed _ e _ l x y c.in-ok-ask_window.ensures) in
+    let new : ℕ × Row = (c.in_ok-place.place, c.in_ok-place.row) in
+    let p = passed (first_no (of_group g e l rs)) (stepped_at g (step.Change e l) rs) new (of_both (λ d k. ◌≡◌ {A = Result (ℕ × Row) ℕ} (Ok new) (answered (first_no (of_group g d k rs)) (stepped_at g (step.Change d k) rs))) _ e _ l x y c.in_ok-place.ensures) in
+    let w = all_yes (of_window e l) (window_passed _ e _ l x y c.in_ok-ask_window.ensures) in
     record { none = yes_then (q_times e l) (q_upright e l ∷ of_group g e l rs) w.0 (yes_then (q_upright e l) (of_group g e l rs) w.1.0 p.0); same = p.1 }
 
 -- what was tried is the change made
 tried : (s : Sheet) (g : ℕ) (e l : ℤ) (new : ℕ × Row) → Known s g e l new → playable (set (content s).rows new.0 new.1) s.pace ≡ playable (step_of g (step.Change e l) (content s).rows) s.pace
 tried s g e l new k = ap (λ (z : ℕ × Row). playable (set (content s).rows z.0 z.1) s.pace) k.same
 
-pub returns-in-err-place : goal.returns-in-err-place
-returns-in-err-place c =
+pub returns-in_err-place : goal.returns-in_err-place
+returns-in_err-place c =
     let s = c.args.self.now in
     let rs = (content s).rows in
     let g = c.args.number in
@@ -62,10 +62,10 @@ returns-in-err-place c =
     let l = c.args.late in
     let x = to_z-of_z w32 e c.ranges.early in
     let y = to_z-of_z w32 l c.ranges.late in
-    let q = c.in-err-place.field-0.0 in
-    let i : c.from-residual-in-err-place.result ≡ Err q = search rules in
-    let refuses = of_both (λ d k. ◌≡◌ {A = Result (ℕ × Row) ℕ} (Err (number_of q)) (answered (first_no (of_group g d k rs)) (stepped_at g (step.Change d k) rs))) _ e _ l x y c.in-err-place.ensures in
-    stops (of_window e l) (of_group g e l rs) (q_order (change_made (Change g e l) (content s)) ∷ []) c.from-residual-in-err-place.result q (stepped_at g (step.Change e l) rs) (stepped_at g (step.Change e l) rs) (window_passed _ e _ l x y c.in-ok-ask_window.ensures) i refuses
+    let q = c.in_err-place.field-0.0 in
+    let i : c.from_residual-in_err-place.result ≡ Err q = search rules in
+    let refuses = of_both (λ d k. ◌≡◌ {A = Result (ℕ × Row) ℕ} (Err (number_of q)) (answered (first_no (of_group g d k rs)) (stepped_at g (step.Change d k) rs))) _ e _ l x y c.in_err-place.ensures in
+    stops (of_window e l) (of_group g e l rs) (q_order (change_made (Change g e l) (content s)) ∷ []) c.from_residual-in_err-place.result q (stepped_at g (step.Change e l) rs) (stepped_at g (step.Change e l) rs) (window_passed _ e _ l x y c.in_ok-ask_window.ensures) i refuses
 
 pub plays_with-requires : goal.plays_with-requires
 plays_with-requires c =
@@ -99,4 +99,4 @@ returns c =
     let l = c.args.late in
     let k = known (goal.at.returns c).In-ok-place in
     let has = sym (tried s g e l _ k) ∙ sym c.if-not-plays_with.ensures in
-    last_yes (before g e l rs) 13 (playable (step_of g (step.Change e l) rs) s.pace) (stepped_at g (step.Change e l) rs) k.none (c.in-ok-place.place, c.in-ok-place.row) k.same has
+    last_yes (before g e l rs) 13 (playable (step_of g (step.Change e l) rs) s.pace) (stepped_at g (step.Change e l) rs) k.none (c.in_ok-place.place, c.in_ok-place.row) k.same has

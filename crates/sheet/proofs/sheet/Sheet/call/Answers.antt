@@ -16,27 +16,27 @@ use Rattle.sheet.proofs.sheet.Sheet.call.Goals as goal
 use Rattle.sheet.proofs.sheet.Sheet.call.Goals.{In-ok-place}
 
 -- every question is passed, and the row is the group's once it has taken the step
-said : (c : In-ok-place) → Passed (content c.args.self.now) (CallUp c.args.number c.args.time) (c.in-ok-place.place, c.in-ok-place.row) (stepped_at c.args.number (step.CallUp c.args.time) (content c.args.self.now).rows)
+said : (c : In-ok-place) → Passed (content c.args.self.now) (CallUp c.args.number c.args.time) (c.in_ok-place.place, c.in_ok-place.row) (stepped_at c.args.number (step.CallUp c.args.time) (content c.args.self.now).rows)
 said c =
     let k = content c.args.self.now in
     let g = c.args.number in
     let t = c.args.time in
     let x = to_z-of_z w32 t c.ranges.time in
-    let yes = subst (λ (u : ℤ). ◌≡◌ {A = Result (ℕ × Row) ℕ} (Ok (c.in-ok-place.place, c.in-ok-place.row)) (answered (verdict k (CallUp g u) 0) (stepped_at g (step.CallUp u) k.rows))) x c.in-ok-place.ensures in
-    passes k (CallUp g t) (stepped_at g (step.CallUp t) k.rows) (c.in-ok-place.place, c.in-ok-place.row) yes
+    let yes = subst (λ (u : ℤ). ◌≡◌ {A = Result (ℕ × Row) ℕ} (Ok (c.in_ok-place.place, c.in_ok-place.row)) (answered (verdict k (CallUp g u) 0) (stepped_at g (step.CallUp u) k.rows))) x c.in_ok-place.ensures in
+    passes k (CallUp g t) (stepped_at g (step.CallUp t) k.rows) (c.in_ok-place.place, c.in_ok-place.row) yes
 
-pub returns-in-err-place : goal.returns-in-err-place
-returns-in-err-place c =
+pub returns-in_err-place : goal.returns-in_err-place
+returns-in_err-place c =
     let s = c.args.self.now in
     let k = content s in
     let g = c.args.number in
     let t = c.args.time in
-    let q = c.in-err-place.field-0.0 in
-    let i : c.from-residual.result ≡ Err q = search rules in
+    let q = c.in_err-place.field-0.0 in
+    let i : c.from_residual.result ≡ Err q = search rules in
     let x = to_z-of_z w32 t c.ranges.time in
-    let no = subst (λ (u : ℤ). ◌≡◌ {A = Result (ℕ × Row) ℕ} (Err (number_of q)) (answered (verdict k (CallUp g u) 0) (stepped_at g (step.CallUp u) k.rows))) x c.in-err-place.ensures in
-    let o = refusal k (CallUp g t) (stepped_at g (step.CallUp t) k.rows) c.from-residual.result q i no in
-    record { answer = o.answer; held = o.held; saved = refl; number = refl; law = (change_alone s _ (CallUp g t) c.from-residual.result (λ n. refl) (refl, refl) refl refl o.answer o.held refl refl).law; thirteen = call_13 k s.steady c.from-residual.result tt g t o.answer }
+    let no = subst (λ (u : ℤ). ◌≡◌ {A = Result (ℕ × Row) ℕ} (Err (number_of q)) (answered (verdict k (CallUp g u) 0) (stepped_at g (step.CallUp u) k.rows))) x c.in_err-place.ensures in
+    let o = refusal k (CallUp g t) (stepped_at g (step.CallUp t) k.rows) c.from_residual.result q i no in
+    record { answer = o.answer; held = o.held; saved = refl; number = refl; law = (change_alone s _ (CallUp g t) c.from_residual.result (λ n. refl) (refl, refl) refl refl o.answer o.held refl refl).law; thirteen = call_13 k s.steady c.from_residual.result tt g t o.answer }
 
 pub row_mut-requires : goal.row_mut-requires
 row_mut-requires c =
@@ -51,13 +51,13 @@ row_mut-requires c =
     let len = s.table.rows.ok.0 in
     omega arith
 
-pub invariant-of-self : goal.invariant-of-self
-invariant-of-self c =
+pub invariant_of-self : goal.invariant_of-self
+invariant_of-self c =
     let s = c.args.self.now in
     let k = content s in
     let g = c.args.number in
     let t = c.args.time in
-    let p = said (goal.at.invariant-of-self c).In-ok-place in
+    let p = said (goal.at.invariant_of-self c).In-ok-place in
     owed (change_made (CallUp g t) k) (call_keeps k (kept_by_sheet s) g t p.none) _ s.pace (λ j. set k.rows (p.value j).0 (p.value j).1) refl
 
 pub returns : goal.returns

@@ -15,7 +15,7 @@ use Rattle.sheet.proofs.sheet.Sheet.change.Goals as goal
 use Rattle.sheet.proofs.sheet.Sheet.change.Goals.{In-ok-place}
 
 -- every question is passed, and the row is the group's once it has taken the step
-said : (c : In-ok-place) → Passed (content c.args.self.now) (Change c.args.number c.args.early c.args.late) (c.in-ok-place.place, c.in-ok-place.row) (stepped_at c.args.number (step.Change c.args.early c.args.late) (content c.args.self.now).rows)
+said : (c : In-ok-place) → Passed (content c.args.self.now) (Change c.args.number c.args.early c.args.late) (c.in_ok-place.place, c.in_ok-place.row) (stepped_at c.args.number (step.Change c.args.early c.args.late) (content c.args.self.now).rows)
 said c =
     let k = content c.args.self.now in
     let g = c.args.number in
@@ -23,32 +23,32 @@ said c =
     let l = c.args.late in
     let x = to_z-of_z w32 e c.ranges.early in
     let y = to_z-of_z w32 l c.ranges.late in
-    let yes = of_both (λ d m. ◌≡◌ {A = Result (ℕ × Row) ℕ} (Ok (c.in-ok-place.place, c.in-ok-place.row)) (answered (verdict k (Change g d m) 0) (stepped_at g (step.Change d m) k.rows))) _ e _ l x y c.in-ok-place.ensures in
-    passes k (Change g e l) (stepped_at g (step.Change e l) k.rows) (c.in-ok-place.place, c.in-ok-place.row) yes
+    let yes = of_both (λ d m. ◌≡◌ {A = Result (ℕ × Row) ℕ} (Ok (c.in_ok-place.place, c.in_ok-place.row)) (answered (verdict k (Change g d m) 0) (stepped_at g (step.Change d m) k.rows))) _ e _ l x y c.in_ok-place.ensures in
+    passes k (Change g e l) (stepped_at g (step.Change e l) k.rows) (c.in_ok-place.place, c.in_ok-place.row) yes
 
-pub returns-in-err-place : goal.returns-in-err-place
-returns-in-err-place c =
+pub returns-in_err-place : goal.returns-in_err-place
+returns-in_err-place c =
     let s = c.args.self.now in
     let k = content s in
     let g = c.args.number in
     let e = c.args.early in
     let l = c.args.late in
-    let q = c.in-err-place.field-0.0 in
-    let i : c.from-residual.result ≡ Err q = search rules in
+    let q = c.in_err-place.field-0.0 in
+    let i : c.from_residual.result ≡ Err q = search rules in
     let x = to_z-of_z w32 e c.ranges.early in
     let y = to_z-of_z w32 l c.ranges.late in
-    let no = of_both (λ d m. ◌≡◌ {A = Result (ℕ × Row) ℕ} (Err (number_of q)) (answered (verdict k (Change g d m) 0) (stepped_at g (step.Change d m) k.rows))) _ e _ l x y c.in-err-place.ensures in
-    let o = refusal k (Change g e l) (stepped_at g (step.Change e l) k.rows) c.from-residual.result q i no in
-    record { answer = o.answer; held = o.held; saved = refl; number = refl; law = (change_alone s _ (Change g e l) c.from-residual.result (λ n. refl) (refl, refl) refl refl o.answer o.held refl refl).law; thirteen = change_13 k s.steady c.from-residual.result tt g e l o.answer }
+    let no = of_both (λ d m. ◌≡◌ {A = Result (ℕ × Row) ℕ} (Err (number_of q)) (answered (verdict k (Change g d m) 0) (stepped_at g (step.Change d m) k.rows))) _ e _ l x y c.in_err-place.ensures in
+    let o = refusal k (Change g e l) (stepped_at g (step.Change e l) k.rows) c.from_residual.result q i no in
+    record { answer = o.answer; held = o.held; saved = refl; number = refl; law = (change_alone s _ (Change g e l) c.from_residual.result (λ n. refl) (refl, refl) refl refl o.answer o.held refl refl).law; thirteen = change_13 k s.steady c.from_residual.result tt g e l o.answer }
 
-pub invariant-of-self : goal.invariant-of-self
-invariant-of-self c =
+pub invariant_of-self : goal.invariant_of-self
+invariant_of-self c =
     let s = c.args.self.now in
     let k = content s in
     let g = c.args.number in
     let e = c.args.early in
     let l = c.args.late in
-    let p = said (goal.at.invariant-of-self c).In-ok-place in
+    let p = said (goal.at.invariant_of-self c).In-ok-place in
     owed (change_made (Change g e l) k) (change_keeps k (kept_by_sheet s) g e l p.none) _ s.pace (λ j. set k.rows (p.value j).0 (p.value j).1) refl
 
 pub returns : goal.returns

@@ -19,23 +19,23 @@ use Rattle.sheet.proofs.Steps.{change_alone}
 use Rattle.sheet.proofs.sheet.Sheet.enter.Goals as goal
 use Rattle.sheet.proofs.sheet.Sheet.enter.Goals.{In-ok-place}
 
-pub returns-in-err-place : goal.returns-in-err-place
-returns-in-err-place c =
+pub returns-in_err-place : goal.returns-in_err-place
+returns-in_err-place c =
     let s = c.args.self.now in
     let k = content s in
     let g = c.args.number in
     let e = c.args.early in
     let l = c.args.late in
-    let q = c.in-err-place.field-0.0 in
-    let i : c.from-residual.result ≡ Err q = search rules in
+    let q = c.in_err-place.field-0.0 in
+    let i : c.from_residual.result ≡ Err q = search rules in
     let x = to_z-of_z w32 e c.ranges.early in
     let y = to_z-of_z w32 l c.ranges.late in
-    let no = of_both (λ d m. ◌≡◌ {A = Result ℕ ℕ} (Err (number_of q)) (answered (verdict k (Enter g d m) 0) (place_for g k.rows))) _ e _ l x y c.in-err-place.ensures in
-    let o = refusal k (Enter g e l) (place_for g k.rows) c.from-residual.result q i no in
-    record { answer = o.answer; held = o.held; saved = refl; number = refl; law = (change_alone s _ (Enter g e l) c.from-residual.result (λ n. refl) (refl, refl) refl refl o.answer o.held refl refl).law; thirteen = enter_13 k s.steady c.from-residual.result tt g e l o.answer }
+    let no = of_both (λ d m. ◌≡◌ {A = Result ℕ ℕ} (Err (number_of q)) (answered (verdict k (Enter g d m) 0) (place_for g k.rows))) _ e _ l x y c.in_err-place.ensures in
+    let o = refusal k (Enter g e l) (place_for g k.rows) c.from_residual.result q i no in
+    record { answer = o.answer; held = o.held; saved = refl; number = refl; law = (change_alone s _ (Enter g e l) c.from_residual.result (λ n. refl) (refl, refl) refl refl o.answer o.held refl refl).law; thirteen = enter_13 k s.steady c.from_residual.result tt g e l o.answer }
 
 -- every question is passed, and the place is the new number's
-said : (c : In-ok-place) → Passed (content c.args.self.now) (Enter c.args.number c.args.early c.args.late) c.in-ok-place.place (place_for c.args.number (content c.args.self.now).rows)
+said : (c : In-ok-place) → Passed (content c.args.self.now) (Enter c.args.number c.args.early c.args.late) c.in_ok-place.place (place_for c.args.number (content c.args.self.now).rows)
 said c =
     let k = content c.args.self.now in
     let g = c.args.number in
@@ -43,8 +43,8 @@ said c =
     let l = c.args.late in
     let x = to_z-of_z w32 e c.ranges.early in
     let y = to_z-of_z w32 l c.ranges.late in
-    let yes = of_both (λ d m. ◌≡◌ {A = Result ℕ ℕ} (Ok c.in-ok-place.place) (answered (verdict k (Enter g d m) 0) (place_for g k.rows))) _ e _ l x y c.in-ok-place.ensures in
-    passes k (Enter g e l) (place_for g k.rows) c.in-ok-place.place yes
+    let yes = of_both (λ d m. ◌≡◌ {A = Result ℕ ℕ} (Ok c.in_ok-place.place) (answered (verdict k (Enter g d m) 0) (place_for g k.rows))) _ e _ l x y c.in_ok-place.ensures in
+    passes k (Enter g e l) (place_for g k.rows) c.in_ok-place.place yes
 
 pub insert-requires : goal.insert-requires
 insert-requires c =
@@ -58,14 +58,14 @@ insert-requires c =
     let len = s.table.rows.ok.0 in
     record { inside = omega arith; room = omega arith }
 
-pub invariant-of-self : goal.invariant-of-self
-invariant-of-self c =
+pub invariant_of-self : goal.invariant_of-self
+invariant_of-self c =
     let s = c.args.self.now in
     let k = content s in
     let g = c.args.number in
     let e = c.args.early in
     let l = c.args.late in
-    let p = said (goal.at.invariant-of-self c).In-ok-place in
+    let p = said (goal.at.invariant_of-self c).In-ok-place in
     let x = to_z-of_z w32 e c.ranges.early in
     let y = to_z-of_z w32 l c.ranges.late in
     let new = c.waiting.ensures ∙ (λ j. waiting g (x j) (y j)) in

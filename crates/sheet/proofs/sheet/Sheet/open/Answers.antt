@@ -11,11 +11,11 @@ use Rattle.sheet.proofs.Slips.{in_trial, outside_trial}
 use Rattle.sheet.proofs.Steps.{open_goes_on}
 use Rattle.sheet.proofs.sheet.Sheet.open.Goals as goal
 
-pub invariant-of-self : goal.invariant-of-self
-invariant-of-self c = let s = c.args.self.now in owed _ (none_kept s.saved.pace s.saved.steady) _ s.saved.pace c.clear.ensures refl
+pub invariant_of-self : goal.invariant_of-self
+invariant_of-self c = let s = c.args.self.now in owed _ (none_kept s.saved.pace s.saved.steady) _ s.saved.pace c.clear.ensures refl
 
-pub invariant-of-self-2 : goal.invariant-of-self-2
-invariant-of-self-2 c = let s = c.args.self.now in owed _ (none_kept s.pace s.steady) _ s.pace c.clear.ensures refl
+pub invariant_of-self-2 : goal.invariant_of-self-2
+invariant_of-self-2 c = let s = c.args.self.now in owed _ (none_kept s.pace s.steady) _ s.pace c.clear.ensures refl
 
 pub returns-then-self : goal.returns-then-self
 returns-then-self c =

@@ -11,15 +11,15 @@ use Rattle.sheet.proofs.Steps.{range_goes_on}
 use Rattle.sheet.proofs.Tried.{few}
 use Rattle.sheet.proofs.sheet.Sheet.range.Goals as goal
 
-pub returns-in-err-place : goal.returns-in-err-place
-returns-in-err-place c =
+pub returns-in_err-place : goal.returns-in_err-place
+returns-in_err-place c =
     let s = c.args.self.now in
     let g = c.args.number in
-    let q = c.in-err-place.field-0.0 in
-    let i : c.from-residual.result ≡ Err q = search rules in
+    let q = c.in_err-place.field-0.0 in
+    let i : c.from_residual.result ≡ Err q = search rules in
     let no : GroupTold (content s) g (Err q) = search rules in
     let told = subst (GroupTold (content s) g) (sym i) no in
-    record { exact = told; law = (range_goes_on s no_lists _ (RangeOf g) g c.from-residual.result refl told refl).law }
+    record { exact = told; law = (range_goes_on s no_lists _ (RangeOf g) g c.from_residual.result refl told refl).law }
 
 pub returns : goal.returns
 returns c =
@@ -27,7 +27,7 @@ returns c =
     let rs = (content s).rows in
     let g = c.args.number in
     let eight : on g rs ≡ true = search rules in
-    let at : c.in-ok-place.place ≡ place g rs = search rules in
-    let found = subst (λ (us : List Row). RangeTold s.pace (windows_of us) c.in-ok-place.place c.range.result) c.rows.ensures.rows c.range.ensures.exact in
+    let at : c.in_ok-place.place ≡ place g rs = search rules in
+    let found = subst (λ (us : List Row). RangeTold s.pace (windows_of us) c.in_ok-place.place c.range.result) c.rows.ensures.rows c.range.ensures.exact in
     let told = group_told (content s) g s.steady (few s) s.kept c.rows.ensures.possible eight c.range.result (subst (λ (i : ℕ). RangeTold s.pace (windows_of rs) i c.range.result) at found) in
     record { exact = told; law = (range_goes_on s no_lists _ (RangeOf g) g c.range.result refl told refl).law }

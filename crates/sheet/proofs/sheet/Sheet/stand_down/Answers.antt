@@ -7,22 +7,22 @@ use Rattle.sheet.proofs.Outcomes.{passes, refusal, success}
 use Rattle.sheet.proofs.Steps.{change_alone}
 use Rattle.sheet.proofs.sheet.Sheet.stand_down.Goals as goal
 
-pub returns-in-err-place : goal.returns-in-err-place
-returns-in-err-place c =
+pub returns-in_err-place : goal.returns-in_err-place
+returns-in_err-place c =
     let s = c.args.self.now in
     let k = content s in
     let g = c.args.number in
-    let q = c.in-err-place.field-0.0 in
-    let i : c.from-residual.result ≡ Err q = search rules in
-    let o = refusal k (StandDown g) (stepped_at g step.StandDown k.rows) c.from-residual.result q i c.in-err-place.ensures in
-    record { answer = o.answer; held = o.held; saved = refl; number = refl; law = (change_alone s _ (StandDown g) c.from-residual.result (λ n. refl) (refl, refl) refl refl o.answer o.held refl refl).law }
+    let q = c.in_err-place.field-0.0 in
+    let i : c.from_residual.result ≡ Err q = search rules in
+    let o = refusal k (StandDown g) (stepped_at g step.StandDown k.rows) c.from_residual.result q i c.in_err-place.ensures in
+    record { answer = o.answer; held = o.held; saved = refl; number = refl; law = (change_alone s _ (StandDown g) c.from_residual.result (λ n. refl) (refl, refl) refl refl o.answer o.held refl refl).law }
 
-pub invariant-of-self : goal.invariant-of-self
-invariant-of-self c =
+pub invariant_of-self : goal.invariant_of-self
+invariant_of-self c =
     let s = c.args.self.now in
     let k = content s in
     let g = c.args.number in
-    let p = passes k (StandDown g) (stepped_at g step.StandDown k.rows) (c.in-ok-place.place, c.in-ok-place.row) c.in-ok-place.ensures in
+    let p = passes k (StandDown g) (stepped_at g step.StandDown k.rows) (c.in_ok-place.place, c.in_ok-place.row) c.in_ok-place.ensures in
     owed (change_made (StandDown g) k) (stand_down_keeps k (kept_by_sheet s) g p.none) _ s.pace (λ j. set k.rows (p.value j).0 (p.value j).1) refl
 
 pub returns : goal.returns
@@ -30,6 +30,6 @@ returns c =
     let s = c.args.self.now in
     let k = content s in
     let g = c.args.number in
-    let p = passes k (StandDown g) (stepped_at g step.StandDown k.rows) (c.in-ok-place.place, c.in-ok-place.row) c.in-ok-place.ensures in
+    let p = passes k (StandDown g) (stepped_at g step.StandDown k.rows) (c.in_ok-place.place, c.in_ok-place.row) c.in_ok-place.ensures in
     let o = success k (StandDown g) _ p.none (λ j. with_rows k (set k.rows (p.value j).0 (p.value j).1)) in
     record { answer = o.answer; held = o.held; saved = refl; number = refl; law = (change_alone s _ (StandDown g) (Ok tt) (λ n. refl) (refl, refl) refl refl o.answer o.held refl refl).law }

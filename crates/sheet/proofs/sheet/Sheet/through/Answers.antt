@@ -21,8 +21,8 @@ use Rattle.sheet.proofs.Thirteen.{through_13}
 use Rattle.sheet.proofs.Tried.{few, held_windows}
 use Rattle.sheet.proofs.sheet.Sheet.through.Goals as goal
 
-pub returns-in-err-place : goal.returns-in-err-place
-returns-in-err-place c =
+pub returns-in_err-place : goal.returns-in_err-place
+returns-in_err-place c =
     let s = c.args.self.now in
     let k = content s in
     let g = c.args.number in
@@ -30,11 +30,11 @@ returns-in-err-place c =
     let room = length c.args.list.now in
     let new = change_made (Through g t) k in
     let xs = order_of new in
-    let r = c.from-residual.result in
-    let q = c.in-err-place.field-0.0 in
+    let r = c.from_residual.result in
+    let q = c.in_err-place.field-0.0 in
     let i : r ≡ Err q = search rules in
     let x = to_z-of_z w32 t c.ranges.time in
-    let no = subst (λ (u : ℤ). ◌≡◌ {A = Result ℕ ℕ} (Err (number_of q)) (answered (first_no (q_time u ∷ q_on g k.rows ∷ q_inside g u k.rows ∷ [])) (place g k.rows))) x c.in-err-place.ensures in
+    let no = subst (λ (u : ℤ). ◌≡◌ {A = Result ℕ ℕ} (Err (number_of q)) (answered (first_no (q_time u ∷ q_on g k.rows ∷ q_inside g u k.rows ∷ [])) (place g k.rows))) x c.in_err-place.ensures in
     let said = stops [] (q_time t ∷ q_on g k.rows ∷ q_inside g t k.rows ∷ []) (q_list room k.rows ∷ q_order new ∷ []) r q (length xs) (place g k.rows) refl i no in
     let v = refused_by (verdict k (Through g t) room) (length xs) (number_of q) (sym (ap by_number i) ∙ said) in
     let told = said ∙ sym (counted (verdict k (Through g t) room) xs) in
@@ -60,8 +60,8 @@ returns c =
     let new = change_made (Through g t) k in
     let xs = order_of new in
     let x = to_z-of_z w32 t c.ranges.time in
-    let yes = subst (λ (u : ℤ). ◌≡◌ {A = Result ℕ ℕ} (Ok c.in-ok-place.place) (answered (first_no (q_time u ∷ q_on g rs ∷ q_inside g u rs ∷ [])) (place g rs))) x c.in-ok-place.ensures in
-    let p = passed (first_no (q_time t ∷ q_on g rs ∷ q_inside g t rs ∷ [])) (place g rs) c.in-ok-place.place yes in
+    let yes = subst (λ (u : ℤ). ◌≡◌ {A = Result ℕ ℕ} (Ok c.in_ok-place.place) (answered (first_no (q_time u ∷ q_on g rs ∷ q_inside g u rs ∷ [])) (place g rs))) x c.in_ok-place.ensures in
+    let p = passed (first_no (q_time t ∷ q_on g rs ∷ q_inside g t rs ∷ [])) (place g rs) c.in_ok-place.place yes in
     let h = c.new.ensures in
     let below = ap (λ (z : Rows). z.rows.now) h.0 ∙ c.rows.ensures.rows in
     let windows = held_windows rs _ (place g rs) _ (stood (row g rs) (Called t)) _ _ below (h.1 ∙ p.1) (h.2 ∙ x) (h.3 ∙ x) in

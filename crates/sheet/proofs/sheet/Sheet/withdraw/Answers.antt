@@ -8,22 +8,22 @@ use Rattle.sheet.proofs.Outcomes.{passes, refusal, success}
 use Rattle.sheet.proofs.Steps.{change_alone}
 use Rattle.sheet.proofs.sheet.Sheet.withdraw.Goals as goal
 
-pub returns-in-err-place : goal.returns-in-err-place
-returns-in-err-place c =
+pub returns-in_err-place : goal.returns-in_err-place
+returns-in_err-place c =
     let s = c.args.self.now in
     let k = content s in
     let g = c.args.number in
-    let q = c.in-err-place.field-0.0 in
-    let i : c.from-residual.result ≡ Err q = search rules in
-    let o = refusal k (Withdraw g) (stepped_at g step.Withdraw k.rows) c.from-residual.result q i c.in-err-place.ensures in
-    record { answer = o.answer; held = o.held; saved = refl; number = refl; law = (change_alone s _ (Withdraw g) c.from-residual.result (λ n. refl) (refl, refl) refl refl o.answer o.held refl refl).law }
+    let q = c.in_err-place.field-0.0 in
+    let i : c.from_residual.result ≡ Err q = search rules in
+    let o = refusal k (Withdraw g) (stepped_at g step.Withdraw k.rows) c.from_residual.result q i c.in_err-place.ensures in
+    record { answer = o.answer; held = o.held; saved = refl; number = refl; law = (change_alone s _ (Withdraw g) c.from_residual.result (λ n. refl) (refl, refl) refl refl o.answer o.held refl refl).law }
 
-pub invariant-of-self : goal.invariant-of-self
-invariant-of-self c =
+pub invariant_of-self : goal.invariant_of-self
+invariant_of-self c =
     let s = c.args.self.now in
     let k = content s in
     let g = c.args.number in
-    let p = passes k (Withdraw g) (stepped_at g step.Withdraw k.rows) _ c.in-ok-place.ensures in
+    let p = passes k (Withdraw g) (stepped_at g step.Withdraw k.rows) _ c.in_ok-place.ensures in
     let rows = c.remove.ensures ∙ (λ j. remove k.rows (p.value j).0) in
     owed (change_made (Withdraw g) k) (withdraw_keeps k (kept_by_sheet s) g p.none) _ s.pace rows refl
 
@@ -32,7 +32,7 @@ returns c =
     let s = c.args.self.now in
     let k = content s in
     let g = c.args.number in
-    let p = passes k (Withdraw g) (stepped_at g step.Withdraw k.rows) _ c.in-ok-place.ensures in
+    let p = passes k (Withdraw g) (stepped_at g step.Withdraw k.rows) _ c.in_ok-place.ensures in
     let rows = c.remove.ensures ∙ (λ j. remove k.rows (p.value j).0) in
     let o = success k (Withdraw g) _ p.none (ap (with_rows k) rows) in
     record { answer = o.answer; held = o.held; saved = refl; number = refl; law = (change_alone s _ (Withdraw g) (Ok tt) (λ n. refl) (refl, refl) refl refl o.answer o.held refl refl).law }
