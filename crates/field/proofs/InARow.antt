@@ -1,24 +1,24 @@
 -- Questions in a row: what their first no says.
 use Rattle.std.proofs.Common.{◌≡◌, ℕ, Bool, true, false, cond, List, [], ◌∷◌, ◌++◌, Some, None, refl, ap, ◌∙◌, subst, arith}
-use Rattle.std.specs.List.{AllByRecursion as All}
+use Rattle.std.specs.List.{AllByRecursion}
 use Rattle.field.specs.Refusals.{Question, first_no}
 
 -- where no question gets a no, each got a yes
-pub all_yes : (qs : List Question) → first_no qs ≡ None → All (λ q. q.yes ≡ true) qs
+pub all_yes : (qs : List Question) → first_no qs ≡ None → AllByRecursion (λ q. q.yes ≡ true) qs
 all_yes [] e = tt
 all_yes (q ∷ qs) e = go q.yes refl e (λ d. all_yes qs d)
   where
-    go : (b : Bool) → q.yes ≡ b → cond b (first_no qs) (Some q.number) ≡ None → (first_no qs ≡ None → All (λ q. q.yes ≡ true) qs) → (q.yes ≡ true) × All (λ q. q.yes ≡ true) qs
+    go : (b : Bool) → q.yes ≡ b → cond b (first_no qs) (Some q.number) ≡ None → (first_no qs ≡ None → AllByRecursion (λ q. q.yes ≡ true) qs) → (q.yes ≡ true) × AllByRecursion (λ q. q.yes ≡ true) qs
     go true y d ih = (y, ih d)
     go false y d ih = let z : ◌≡◌ {A = ℕ} 0 1 = cc in absurd (omega arith)
 
 -- and where each gets a yes, none gets a no
-pub no_no : (qs : List Question) → All (λ q. q.yes ≡ true) qs → first_no qs ≡ None
+pub no_no : (qs : List Question) → AllByRecursion (λ q. q.yes ≡ true) qs → first_no qs ≡ None
 no_no [] a = refl
 no_no (q ∷ qs) a = ap (λ (b : Bool). cond b (first_no qs) (Some q.number)) a.0 ∙ no_no qs a.1
 
 -- the number of a no is one of theirs
-pub no_among : (P : ℕ → Type 0) (qs : List Question) (n : ℕ) → All (λ q. P q.number) qs → first_no qs ≡ Some n → P n
+pub no_among : (P : ℕ → Type 0) (qs : List Question) (n : ℕ) → AllByRecursion (λ q. P q.number) qs → first_no qs ≡ Some n → P n
 no_among P [] n a e = let z : ◌≡◌ {A = ℕ} 0 1 = cc in absurd (omega arith)
 no_among P (q ∷ qs) n a e = go q.yes e (λ d. no_among P qs n a.1 d)
   where

@@ -1,6 +1,6 @@
 -- What the questions say of a call's answer.
 use Rattle.std.proofs.Common.{◌≡◌, ℕ, ◌+◌, ◌<◌, ◌≤◌, Bool, true, false, leb, List, [], ◌∷◌, ◌++◌, length, get_or, take, drop, set, pos, is_some, Some, None, Ok, Err, Result, sym, refl, ap, ◌∙◌, subst, arith}
-use Rattle.std.specs.List.{AllByRecursion as All}
+use Rattle.std.specs.List.{AllByRecursion}
 use Rattle.std.proofs.lemmas.Int.{ints}
 use Rattle.std.proofs.lemmas.List.{take_more, drop_more, set_at, length-take-le, append_assoc, take_all}
 use Rattle.std.proofs.lemmas.Bool.{and_parts, leb-true, le-leb}
@@ -20,7 +20,7 @@ use Rattle.reckoning.proofs.Every.{timed_all}
 -- ---- the questions of a field
 
 -- a field that is not refused
-pub passed : (p : ℕ) (ws : List Window) → refused p ws ≡ None → Pace (pos p) × (length ws ≤ 64) × All Timed ws
+pub passed : (p : ℕ) (ws : List Window) → refused p ws ≡ None → Pace (pos p) × (length ws ≤ 64) × AllByRecursion Timed ws
 passed p ws e =
     let a = all_yes (questions p ws) e in
     let h = and_parts (leb 1 p) (leb p 3600) a.0 in

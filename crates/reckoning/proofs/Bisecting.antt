@@ -2,7 +2,7 @@
 use Rattle.std.proofs.Common.{◌≡◌, ℕ, zero, suc, ◌+◌, ◌-◌, ◌<◌, ◌≤◌, true, false, ◌⊎◌, List, [], ◌∷◌, length, get_or, take, set, ℤ, pos, negsuc, ◌+ℤ◌, ◌≤ℤ◌, ◌<ℤ◌, is_some, sym, refl, ap, ◌∙◌, subst, inl, inr, arith}
 use lib.Signed.{quot_z}
 use borrow.Author.Differences.{up, down}
-use Rattle.std.specs.List.{AllByRecursion as All}
+use Rattle.std.specs.List.{AllByRecursion}
 use Rattle.std.proofs.lemmas.Int.{ints, by_lt_z}
 use Rattle.std.proofs.ByRecursion.{All-set, All-get_or}
 use Rattle.std.proofs.lemmas.List.{get_or-take, set-get_or, length-take-le, length-take, length-set}
@@ -32,7 +32,7 @@ pub record Closing (p : ℤ) (ws : List Window) (i : ℕ) (low high : ℤ) : Typ
 unfoldable pub width : ℤ → ℤ → ℕ
 width low high = (up high + down low) - (up low + down high)
 
-pub closing_begin : (p : ℤ) (ws : List Window) (i : ℕ) (low high : ℤ) → pos 1 ≤ℤ p → i < length ws → All Timed ws → low ≡ (window_at ws i).early → high ≡ (window_at ws i).late → (window_at ws i).early ≤ℤ (window_at ws i).late → is_some (forbidden p ws) ≡ true → Closing p ws i low high
+pub closing_begin : (p : ℤ) (ws : List Window) (i : ℕ) (low high : ℤ) → pos 1 ≤ℤ p → i < length ws → AllByRecursion Timed ws → low ≡ (window_at ws i).early → high ≡ (window_at ws i).late → (window_at ws i).early ≤ℤ (window_at ws i).late → is_some (forbidden p ws) ≡ true → Closing p ws i low high
 closing_begin p ws i low high h l timed a b k s =
     let t = All-get_or Timed ws i outside l timed in
     record {
@@ -110,5 +110,5 @@ cut_few xs n i x h l =
     let d = length-take-le n xs h in
     omega (arith, e, d)
 
-pub cut_timed : (ws : List Window) (i : ℕ) (x : ℤ) → All Timed ws → i < length ws → negsuc 86399 ≤ℤ x → x ≤ℤ pos 86400 → All Timed (cut ws i x)
+pub cut_timed : (ws : List Window) (i : ℕ) (x : ℤ) → AllByRecursion Timed ws → i < length ws → negsuc 86399 ≤ℤ x → x ≤ℤ pos 86400 → AllByRecursion Timed (cut ws i x)
 cut_timed ws i x a l h k = let t = All-get_or Timed ws i outside l a in All-set Timed ws i (window (window_at ws i).early x) (t.0, t.1, h, k) a

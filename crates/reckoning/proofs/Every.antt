@@ -1,7 +1,7 @@
 -- A test that each window passes, and windows read one by one.
 use Rattle.std.proofs.Common.{◌≡◌, ℕ, zero, suc, ◌+◌, ◌<◌, ◌≤◌, Bool, true, false, ◌&&◌, List, [], ◌∷◌, ◌++◌, length, get_or, take, set, pos, negsuc, sym, refl, ap, ◌∙◌, arith}
 use lib.Signed.{le_z}
-use Rattle.std.specs.List.{AllByRecursion as All}
+use Rattle.std.specs.List.{AllByRecursion}
 use Rattle.std.proofs.lemmas.List.{take_more, take_more_set, take_all}
 use Rattle.std.proofs.ByRecursion.{All-weaker}
 use Rattle.std.proofs.lemmas.Bool.{and_parts, and_from, and_left, and_right}
@@ -25,11 +25,11 @@ every_fails t (w ∷ ws) (suc i) d l h = and_right (t w) (every t ws) (every_fai
 pub every_all : (t : Window → Bool) (ws : List Window) (n : ℕ) → length ws ≤ n → every t (take n ws) ≡ true → every t ws ≡ true
 every_all t ws n l h = ap (every t) (sym (take_all n ws l)) ∙ h
 
-pub all_every : (t : Window → Bool) (ws : List Window) → every t ws ≡ true → All (λ w. t w ≡ true) ws
+pub all_every : (t : Window → Bool) (ws : List Window) → every t ws ≡ true → AllByRecursion (λ w. t w ≡ true) ws
 all_every t [] h = tt
 all_every t (w ∷ ws) h = let p = and_parts (t w) (every t ws) h in (p.0, all_every t ws p.1)
 
-pub timed_all : (ws : List Window) → every timed ws ≡ true → All Timed ws
+pub timed_all : (ws : List Window) → every timed ws ≡ true → AllByRecursion Timed ws
 timed_all ws h = All-weaker (λ w. timed w ≡ true) Timed each ws (all_every timed ws h)
   where
     each : (w : Window) → timed w ≡ true → Timed w

@@ -1,7 +1,7 @@
 -- What is played is an order of play: every place once, with its start.
 use Rattle.std.proofs.Common.{◌≡◌, ℕ, zero, suc, ◌+◌, ◌-◌, ◌<◌, ◌≤◌, true, cond, not, eqb, List, [], ◌∷◌, ◌++◌, map, length, take, drop, ℤ, pos, ◌+ℤ◌, ◌≤ℤ◌, Some, filter, sym, refl, ap, ◌∙◌, subst, inl, inr, arith}
 use Rattle.std.specs.Int.{int_max}
-use Rattle.std.specs.List.{AllByRecursion as All}
+use Rattle.std.specs.List.{AllByRecursion}
 use Rattle.std.proofs.lemmas.Int.{ints, clamps}
 use Rattle.std.proofs.ByRecursion.{All-weaker, all_kept_by, kept_by_passes, All-map}
 use Rattle.std.proofs.lemmas.List.{length-map, take_at}
@@ -21,17 +21,17 @@ use Rattle.theory.proofs.Closed.{least_ge}
 use Rattle.reckoning.specs.Order.{played, start_of, Ascending, Once, Plays}
 use Rattle.reckoning.proofs.Playing.{length_by_place}
 
-all_without : (P : Group → Type 0) (i : ℕ) (gs : List Group) → All P gs → All P (without i gs)
+all_without : (P : Group → Type 0) (i : ℕ) (gs : List Group) → AllByRecursion P gs → AllByRecursion P (without i gs)
 unfolding without
 all_without P i gs a = all_kept_by (λ g. not (eqb g.place i)) P gs a
 
-without_differs : (i : ℕ) (gs : List Group) → All (λ g. g.place ≡ i → ⊥) (without i gs)
+without_differs : (i : ℕ) (gs : List Group) → AllByRecursion (λ g. g.place ≡ i → ⊥) (without i gs)
 unfolding without
 without_differs i gs =
     All-weaker (λ g. not (eqb g.place i) ≡ true) (λ g. g.place ≡ i → ⊥) (λ g e. eqb-false g.place i (not-true (eqb g.place i) e)) (filter (λ g. not (eqb g.place i)) gs) (kept_by_passes (λ g. not (eqb g.place i)) gs)
 
 -- what holds of each group's place holds of each place played
-all_played : (P : ℕ → Type 0) (p : ℤ) (f : List Span) (n : ℕ) (t : ℤ) (gs : List Group) → All (λ g. P g.place) gs → All (λ s. P s.place) (play p f n t gs)
+all_played : (P : ℕ → Type 0) (p : ℤ) (f : List Span) (n : ℕ) (t : ℤ) (gs : List Group) → AllByRecursion (λ g. P g.place) gs → AllByRecursion (λ s. P s.place) (play p f n t gs)
 unfolding play
 all_played P p f zero t gs a = tt
 all_played P p f (suc n) t [] a = tt
@@ -42,7 +42,7 @@ all_played P p f (suc n) t (g ∷ gs) a =
 
 abbrev Distinct : List Played → Type 0
 Distinct [] = Unit {0}
-Distinct (s ∷ ss) = All (λ z. z.place ≡ s.place → ⊥) ss × Distinct ss
+Distinct (s ∷ ss) = AllByRecursion (λ z. z.place ≡ s.place → ⊥) ss × Distinct ss
 
 distinct : (p : ℤ) (f : List Span) (n : ℕ) (t : ℤ) (gs : List Group) → Distinct (play p f n t gs)
 unfolding play
@@ -53,7 +53,7 @@ distinct p f (suc n) t (g ∷ gs) =
     let h = chosen u g gs in
     (all_played (λ i. i ≡ h.place → ⊥) p f n (u +ℤ p) (without h.place (g ∷ gs)) (without_differs h.place (g ∷ gs)), distinct p f n (u +ℤ p) (without h.place (g ∷ gs)))
 
-time_listed : (ss : List Played) → Distinct ss → All (λ s. time_of s.place ss ≡ s.time) ss
+time_listed : (ss : List Played) → Distinct ss → AllByRecursion (λ s. time_of s.place ss ≡ s.time) ss
 unfolding time_of
 time_listed [] d = tt
 time_listed (s ∷ ss) d = (
@@ -71,7 +71,7 @@ time_listed (s ∷ ss) d = (
 -- ---- in ascending starts
 
 -- nothing is played before t
-from_time : (p : ℤ) (f : List Span) (n : ℕ) (t : ℤ) (gs : List Group) → pos 1 ≤ℤ p → All (λ s. t ≤ℤ s.time) (play p f n t gs)
+from_time : (p : ℤ) (f : List Span) (n : ℕ) (t : ℤ) (gs : List Group) → pos 1 ≤ℤ p → AllByRecursion (λ s. t ≤ℤ s.time) (play p f n t gs)
 unfolding play
 from_time p f zero t gs h = tt
 from_time p f (suc n) t [] h = tt
@@ -105,7 +105,7 @@ once ns (s ∷ ss) d = (All-map (λ z. z.place ≡ s.place → ⊥) (start_of ns
 
 abbrev Differ : List Group → Type 0
 Differ [] = Unit {0}
-Differ (g ∷ gs) = All (λ x. x.place ≡ g.place → ⊥) gs × Differ gs
+Differ (g ∷ gs) = AllByRecursion (λ x. x.place ≡ g.place → ⊥) gs × Differ gs
 
 differ_kept : (i : ℕ) (gs : List Group) → Differ gs → Differ (without i gs)
 unfolding without
@@ -120,7 +120,7 @@ differ_kept i (g ∷ gs) d =
     (λ e. (all_kept_by (λ x. not (eqb x.place i)) (λ x. x.place ≡ g.place → ⊥) gs d.0, ih))
     (λ e. ih)
 
-length_none : (i : ℕ) (gs : List Group) → All (λ x. x.place ≡ i → ⊥) gs → length gs ≤ length (without i gs)
+length_none : (i : ℕ) (gs : List Group) → AllByRecursion (λ x. x.place ≡ i → ⊥) gs → length gs ≤ length (without i gs)
 unfolding without
 length_none i [] a = omega arith
 length_none i (g ∷ gs) a =
@@ -134,7 +134,7 @@ one_less h [] d m = absurd m
 one_less h (g ∷ gs) d (inl q) =
     let i = h.place in
     let e = ap length (cond-false (not (eqb g.place i)) (g ∷ without i gs) (without i gs) (not_from_true (eqb g.place i) (eq-eqb g.place i (ap (λ z. z.place) q)))) in
-    let k = length_none i gs (subst (λ z. All (λ x. x.place ≡ z.place → ⊥) gs) q d.0) in
+    let k = length_none i gs (subst (λ z. AllByRecursion (λ x. x.place ≡ z.place → ⊥) gs) q d.0) in
     omega (arith, e, k)
 one_less h (g ∷ gs) d (inr m) =
     let i = h.place in
@@ -164,7 +164,7 @@ play_short p f (suc n) t (g ∷ gs) =
     let ih = play_short p f n (u +ℤ p) (without (chosen u g gs).place (g ∷ gs)) in
     omega (arith, ih)
 
-by_place_from : (i : ℕ) (ws : List Window) → All (λ g. (i ≤ g.place) × (g.place < i + length ws)) (by_place i ws)
+by_place_from : (i : ℕ) (ws : List Window) → AllByRecursion (λ g. (i ≤ g.place) × (g.place < i + length ws)) (by_place i ws)
 unfolding by_place
 by_place_from i [] = tt
 by_place_from i (w ∷ ws) = (
@@ -182,7 +182,7 @@ by_place_differ i (w ∷ ws) = (
 
 -- ---- of a field
 
-started : (p : ℤ) (f : List Span) (gs : List Group) (n : ℕ) → length gs ≡ n → Differ gs → All (λ g. g.place < n) gs → (length (play_all p f gs) ≡ n) × Distinct (play_all p f gs) × All (λ s. s.place < n) (play_all p f gs)
+started : (p : ℤ) (f : List Span) (gs : List Group) (n : ℕ) → length gs ≡ n → Differ gs → AllByRecursion (λ g. g.place < n) gs → (length (play_all p f gs) ≡ n) × Distinct (play_all p f gs) × AllByRecursion (λ s. s.place < n) (play_all p f gs)
 unfolding play_all
 started p f [] n e d a = (e, tt, tt)
 started p f (g ∷ gs) n e d a =
@@ -192,10 +192,10 @@ started p f (g ∷ gs) n e d a =
     let short = play_short p f m t (g ∷ gs) in
     (omega (arith, long, short, e), distinct p f m t (g ∷ gs), all_played (λ i. i < n) p f m t (g ∷ gs) a)
 
-played_is : (p : ℤ) (f : List Span) (ws : List Window) → (length (played p f ws) ≡ length ws) × Distinct (played p f ws) × All (λ s. s.place < length ws) (played p f ws)
+played_is : (p : ℤ) (f : List Span) (ws : List Window) → (length (played p f ws) ≡ length ws) × Distinct (played p f ws) × AllByRecursion (λ s. s.place < length ws) (played p f ws)
 played_is p f ws = go (by_place 0 ws) (length_by_place 0 ws) (by_place_differ 0 ws) (All-weaker (λ g. (0 ≤ g.place) × (g.place < 0 + length ws)) (λ g. g.place < length ws) (λ g h. omega (arith, h.1)) (by_place 0 ws) (by_place_from 0 ws))
   where
-    go : (gs : List Group) → length gs ≡ length ws → Differ gs → All (λ g. g.place < length ws) gs → (length (play_all p f gs) ≡ length ws) × Distinct (play_all p f gs) × All (λ s. s.place < length ws) (play_all p f gs)
+    go : (gs : List Group) → length gs ≡ length ws → Differ gs → AllByRecursion (λ g. g.place < length ws) gs → (length (play_all p f gs) ≡ length ws) × Distinct (play_all p f gs) × AllByRecursion (λ s. s.place < length ws) (play_all p f gs)
     go gs e d a = started p f gs (length ws) e d a
 
 pub plays : (p : ℤ) (ws : List Window) (ns : List ℕ) (f : List Span) → pos 1 ≤ℤ p → forbidden p ws ≡ Some f → Plays p ws (map (start_of ns) (played p f ws))

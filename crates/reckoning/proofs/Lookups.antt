@@ -1,6 +1,6 @@
 -- One pass over spans whose ends fall finds the time outside.
 use Rattle.std.proofs.Common.{◌≡◌, ℕ, ◌+◌, ◌-◌, ◌<◌, ◌≤◌, Bool, true, false, cond, ◌⊎◌, List, [], ◌∷◌, ◌++◌, reverse, length, get_or, take, drop, ℤ, pos, ◌+ℤ◌, ◌-ℤ◌, ◌≤ℤ◌, ◌<ℤ◌, sym, refl, ap, ◌∙◌, subst, inl, inr, ⊎_elim, arith}
-use Rattle.std.specs.List.{AllByRecursion as All}
+use Rattle.std.specs.List.{AllByRecursion}
 use Rattle.std.proofs.lemmas.Int.{ints}
 use Rattle.std.proofs.lemmas.List.{take_more, reverse-append, take-append-drop}
 use Rattle.std.proofs.lemmas.Bool.{cond_both}
@@ -22,7 +22,7 @@ falling_take xs i h =
 pub reverse_more : (xs : List Span) (i : ℕ) (d : Span) → i < length xs → reverse (take (i + 1) xs) ≡ get_or xs i d ∷ reverse (take i xs)
 reverse_more xs i d h = ap reverse (take_more xs i d h) ∙ reverse-append (take i xs) (get_or xs i d ∷ [])
 
-off_before : (s : Span) (u : ℤ) (f : List Span) → All (λ o. s.last <ℤ o.last) f → (s.first ≤ℤ u) × (u ≤ℤ s.last) → Outside f u → Outside f (s.first -ℤ pos 1)
+off_before : (s : Span) (u : ℤ) (f : List Span) → AllByRecursion (λ o. s.last <ℤ o.last) f → (s.first ≤ℤ u) × (u ≤ℤ s.last) → Outside f u → Outside f (s.first -ℤ pos 1)
 off_before s u [] a c o = tt
 off_before s u (x ∷ f) a c o = (⊎_elim (λ k. inl (omega (arith, ints))) (λ k. absurd (omega (arith, ints, a.0))) o.0, off_before s u f a.1 c o.1)
 
@@ -49,7 +49,7 @@ greatest_more xs i d t l h =
     ap (λ f. greatest_outside f t) e ∙ greatest_last (get_or xs i d) (reverse (take i xs)) t (subst Falling e (falling_take xs (i + 1) h))
 
 -- a jump up goes to the end of some span
-least_jump : (z t : ℤ) (f : List Span) → All (λ o. z <ℤ o.last) f → (least_outside f t ≡ t) ⊎ (z <ℤ least_outside f t)
+least_jump : (z t : ℤ) (f : List Span) → AllByRecursion (λ o. z <ℤ o.last) f → (least_outside f t ≡ t) ⊎ (z <ℤ least_outside f t)
 unfolding least_outside
 least_jump z t [] a = inl refl
 least_jump z t (s ∷ f) a =

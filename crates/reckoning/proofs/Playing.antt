@@ -1,7 +1,7 @@
 -- The written order, turn by turn.
 use Rattle.std.proofs.Common.{◌≡◌, ℕ, zero, suc, ◌+◌, ◌-◌, ◌*◌, ◌<◌, ◌≤◌, Bool, true, false, cond, not, eqb, ◌⊎◌, List, [], ◌∷◌, ◌++◌, length, get_or, take, drop, set, ℤ, pos, negsuc, ◌+ℤ◌, ◌≤ℤ◌, filter, sym, refl, ap, ◌∙◌, subst, inr, ⊎_elim, arith}
 use Rattle.std.specs.Int.{int_min, int_max}
-use Rattle.std.specs.List.{AllByRecursion as All}
+use Rattle.std.specs.List.{AllByRecursion}
 use Rattle.std.proofs.lemmas.Int.{ints, clamps}
 use Rattle.std.proofs.ByRecursion.{All-weaker, all_kept_by}
 use Rattle.std.proofs.lemmas.List.{take_more, take_more_set, take_all, drop_more, drop_all, length-take-le, get_or_default, length-drop}
@@ -106,13 +106,13 @@ fewer t (g ∷ gs) h l e =
     let y = count_all (g ∷ gs) in
     subst (λ z. length (without z.place (g ∷ gs)) < length (g ∷ gs)) (sym e) (omega (arith, a, x, y))
 
-least_low : (t : ℤ) (g : Group) (gs : List Group) → All (λ g. t ≤ℤ g.win.early) (g ∷ gs) → t ≤ℤ least_early g gs
+least_low : (t : ℤ) (g : Group) (gs : List Group) → AllByRecursion (λ g. t ≤ℤ g.win.early) (g ∷ gs) → t ≤ℤ least_early g gs
 unfolding least_early
 least_low t g [] a = a.0
 least_low t g (h ∷ hs) a = let k = least_low t h hs a.1 in omega (arith, ints, clamps, a.0)
 
 -- starting before the least early changes nothing
-pub play_from : (p : ℤ) (f : List Span) (t : ℤ) (gs : List Group) → All (λ g. t ≤ℤ g.win.early) gs → play_all p f gs ≡ play p f (length gs) t gs
+pub play_from : (p : ℤ) (f : List Span) (t : ℤ) (gs : List Group) → AllByRecursion (λ g. t ≤ℤ g.win.early) gs → play_all p f gs ≡ play p f (length gs) t gs
 unfolding play_all play
 play_from p f t [] a = refl
 play_from p f t (g ∷ gs) a =
@@ -123,7 +123,7 @@ play_from p f t (g ∷ gs) a =
 
 -- ---- how high the starts go
 
-pub least_high : (f : List Span) (t z : ℤ) → All Fit f → t ≤ℤ z → pos 86401 ≤ℤ z → least_outside f t ≤ℤ z
+pub least_high : (f : List Span) (t z : ℤ) → AllByRecursion Fit f → t ≤ℤ z → pos 86401 ≤ℤ z → least_outside f t ≤ℤ z
 least_high f t z a h k = least_least f t z h (All-weaker Fit (Off z) (λ s q. inr (omega (arith, ints, q.1))) f a)
 
 -- ---- a list that is written from what is left
@@ -174,14 +174,14 @@ pub record Midway (p : ℤ) (f : List Span) (ws : List Window) (out : List Playe
   pub within : done ≤ length (played p f ws)
   pub low : negsuc 86399 ≤ℤ t
   pub high : t ≤ℤ pos (86401 + 3600 * done)
-  pub soon : All (λ g. g.win.early ≤ℤ pos 86400) gs
+  pub soon : AllByRecursion (λ g. g.win.early ≤ℤ pos 86400) gs
 
-all_by_place : (P : Window → Type 0) (i : ℕ) (ws : List Window) → All P ws → All (λ g. P g.win) (by_place i ws)
+all_by_place : (P : Window → Type 0) (i : ℕ) (ws : List Window) → AllByRecursion P ws → AllByRecursion (λ g. P g.win) (by_place i ws)
 unfolding by_place
 all_by_place P i [] a = tt
 all_by_place P i (w ∷ ws) a = (a.0, all_by_place P (suc i) ws a.1)
 
-pub midway_begin : (p : ℤ) (f : List Span) (ws : List Window) (out : List Played) (gs : List Group) → All Timed ws → gs ≡ by_place 0 ws → Midway p f ws out 0 (negsuc 86399) gs (length ws)
+pub midway_begin : (p : ℤ) (f : List Span) (ws : List Window) (out : List Played) (gs : List Group) → AllByRecursion Timed ws → gs ≡ by_place 0 ws → Midway p f ws out 0 (negsuc 86399) gs (length ws)
 midway_begin p f ws out gs a e =
     let k = length_by_place 0 ws in
     let q = play_from p f (negsuc 86399) (by_place 0 ws) (all_by_place (λ w. negsuc 86399 ≤ℤ w.early) 0 ws (All-weaker Timed (λ w. negsuc 86399 ≤ℤ w.early) (λ w t. t.0) ws a)) in
@@ -194,7 +194,7 @@ midway_begin p f ws out gs a e =
       within = omega arith;
       low = omega (arith, ints);
       high = omega (arith, ints);
-      soon = subst (All (λ g. g.win.early ≤ℤ pos 86400)) (sym e) (all_by_place (λ w. w.early ≤ℤ pos 86400) 0 ws (All-weaker Timed (λ w. w.early ≤ℤ pos 86400) (λ w t. t.1) ws a));
+      soon = subst (AllByRecursion (λ g. g.win.early ≤ℤ pos 86400)) (sym e) (all_by_place (λ w. w.early ≤ℤ pos 86400) 0 ws (All-weaker Timed (λ w. w.early ≤ℤ pos 86400) (λ w t. t.1) ws a));
     }
 
 pub midway_end : (p : ℤ) (f : List Span) (ws : List Window) (out : List Played) (done : ℕ) (t : ℤ) (gs : List Group) (left : ℕ) → left ≤ 0 → Midway p f ws out done t gs left → (done ≡ length (played p f ws)) × (take done out ≡ played p f ws) × (done ≤ length ws)
@@ -206,25 +206,25 @@ midway_end p f ws out done t gs left h m =
     let e : done ≡ length W = omega (arith, len, d, m.within) in
     (e, m.front ∙ take_all done W (omega (arith, e)), omega (arith, m.fuel))
 
-least_soon : (gs : List Group) → 0 < length gs → All (λ g. g.win.early ≤ℤ pos 86400) gs → least_of gs ≤ℤ pos 86400
+least_soon : (gs : List Group) → 0 < length gs → AllByRecursion (λ g. g.win.early ≤ℤ pos 86400) gs → least_of gs ≤ℤ pos 86400
 unfolding least_of least_early
 least_soon [] l a = absurd (omega arith)
 least_soon (g ∷ []) l a = a.0
 least_soon (g ∷ h ∷ gs) l a = omega (arith, ints, clamps, a.0)
 
-all_without : (P : Group → Type 0) (i : ℕ) (gs : List Group) → All P gs → All P (without i gs)
+all_without : (P : Group → Type 0) (i : ℕ) (gs : List Group) → AllByRecursion P gs → AllByRecursion P (without i gs)
 unfolding without
 all_without P i gs a = all_kept_by (λ g. not (eqb g.place i)) P gs a
 
 -- a start is far from the ends of 64 bits
-pub midway_near : (p : ℤ) (f : List Span) (ws : List Window) (out : List Played) (done : ℕ) (t : ℤ) (gs : List Group) (left : ℕ) (u : ℤ) → All Fit f → 0 < left → length ws ≤ 64 → Midway p f ws out done t gs left → u ≡ least_outside f (int_max t (least_of gs)) → Near u
+pub midway_near : (p : ℤ) (f : List Span) (ws : List Window) (out : List Played) (done : ℕ) (t : ℤ) (gs : List Group) (left : ℕ) (u : ℤ) → AllByRecursion Fit f → 0 < left → length ws ≤ 64 → Midway p f ws out done t gs left → u ≡ least_outside f (int_max t (least_of gs)) → Near u
 midway_near p f ws out done t gs left u fit some few m eu =
     let up = least_ge f (int_max t (least_of gs)) in
     let low = least_soon gs (omega (arith, m.size)) m.soon in
     let hi = least_high f (int_max t (least_of gs)) (pos (86401 + 3600 * done)) fit (omega (arith, ints, clamps, m.high, low)) (omega (arith, ints)) in
     (omega (arith, ints, clamps, up, eu, m.low), omega (arith, ints, hi, eu, m.fuel))
 
-pub midway_turn : (p : ℤ) (f : List Span) (ws : List Window) (out : List Played) (done : ℕ) (t : ℤ) (gs : List Group) (left : ℕ) (u v : ℤ) (h : Group) (hs : List Group) (less : ℕ) → Pace p → All Fit f → All Timed ws → 0 < left → done < length out → Midway p f ws out done t gs left → u ≡ least_outside f (int_max t (least_of gs)) → h ≡ chosen_of u gs → hs ≡ without h.place gs → length hs ≡ less → v ≡ u +ℤ p → Midway p f ws (set out done (record { place = h.place; time = u })) (done + 1) v hs less
+pub midway_turn : (p : ℤ) (f : List Span) (ws : List Window) (out : List Played) (done : ℕ) (t : ℤ) (gs : List Group) (left : ℕ) (u v : ℤ) (h : Group) (hs : List Group) (less : ℕ) → Pace p → AllByRecursion Fit f → AllByRecursion Timed ws → 0 < left → done < length out → Midway p f ws out done t gs left → u ≡ least_outside f (int_max t (least_of gs)) → h ≡ chosen_of u gs → hs ≡ without h.place gs → length hs ≡ less → v ≡ u +ℤ p → Midway p f ws (set out done (record { place = h.place; time = u })) (done + 1) v hs less
 midway_turn p f ws out done t gs left u v h hs less pace fit timed some room m eu eh ehs el ev =
     let W = played p f ws in
     let s : Played = record { place = h.place; time = u } in
@@ -245,7 +245,7 @@ midway_turn p f ws out done t gs left u v h hs less pace fit timed some room m e
       within = omega (arith, lm.0);
       low = omega (arith, ints, clamps, up, eu, ev, m.low, pace.0);
       high = omega (arith, ints, hi, eu, ev, pace.1);
-      soon = subst (All (λ g. g.win.early ≤ℤ pos 86400)) (sym ehs) (all_without (λ g. g.win.early ≤ℤ pos 86400) h.place gs m.soon);
+      soon = subst (AllByRecursion (λ g. g.win.early ≤ℤ pos 86400)) (sym ehs) (all_without (λ g. g.win.early ≤ℤ pos 86400) h.place gs m.soon);
     }
 
 -- what the code reads from its groups: the first `left` of them, as `&groups[0..left]`

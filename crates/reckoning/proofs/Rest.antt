@@ -1,7 +1,7 @@
 -- The earlies that are left, and the greatest of them.
 use Rattle.std.proofs.Common.{◌≡◌, ℕ, suc, ◌+◌, ◌-◌, ◌<◌, ◌≤◌, Bool, true, false, cond, ◌&&◌, ◌⊎◌, List, [], ◌∷◌, length, drop, ℤ, pos, negsuc, ◌+ℤ◌, ◌≤ℤ◌, ◌<ℤ◌, filter, sym, refl, ap, ◌∙◌, subst, inl, inr, ⊎_elim, arith}
 use lib.Signed.{le_z, lt_z}
-use Rattle.std.specs.List.{AllByRecursion as All}
+use Rattle.std.specs.List.{AllByRecursion}
 use Rattle.std.proofs.lemmas.Int.{ints, by_lt_z}
 use Rattle.std.proofs.ByRecursion.{All-weaker}
 use Rattle.std.proofs.lemmas.List.{drop_more, drop_all}
@@ -35,18 +35,18 @@ top_more d b w ws h = top_put d b w.early (earlies ws) h
 
 -- ---- what the greatest leaves
 
-kept_all : (b : ℤ) (xs : List ℤ) → All (λ y. y <ℤ b) xs → filter (before b) xs ≡ xs
+kept_all : (b : ℤ) (xs : List ℤ) → AllByRecursion (λ y. y <ℤ b) xs → filter (before b) xs ≡ xs
 kept_all b [] a = refl
 kept_all b (x ∷ xs) a = cond-true (lt_z x b) (x ∷ filter (before b) xs) (filter (before b) xs) (lt_z_yes x b a.0) ∙ ap (λ z. x ∷ z) (kept_all b xs a.1)
 
 -- k is what is left before b of the list es: h first, and then what is left before h
 abbrev Top : List ℤ → ℤ → List ℤ → ℤ → Type 0
-Top es b k h = (k ≡ h ∷ filter (before h) es) × (h <ℤ b) × All (λ x. x <ℤ b → x ≤ℤ h) es
+Top es b k h = (k ≡ h ∷ filter (before h) es) × (h <ℤ b) × AllByRecursion (λ x. x <ℤ b → x ≤ℤ h) es
 
 abbrev Topped : ℤ → List ℤ → ℤ → List ℤ → Type 0
 Topped d es b k = ((k ≡ []) × (head_or d k ≡ d)) ⊎ (Top es b k (head_or d k) × (d <ℤ head_or d k))
 
-kept_top : (d b : ℤ) (es : List ℤ) → Falling es → All (λ x. d <ℤ x) es → Topped d es b (filter (before b) es)
+kept_top : (d b : ℤ) (es : List ℤ) → Falling es → AllByRecursion (λ x. d <ℤ x) es → Topped d es b (filter (before b) es)
 unfolding head_or
 kept_top d b [] h a = inl (refl, refl)
 kept_top d b (x ∷ xs) h a =
@@ -73,7 +73,7 @@ kept_top d b (x ∷ xs) h a =
     inr ((t.0 ∙ ap (λ z. y ∷ z) (sym s), t.1, ((λ z. absurd (omega (arith, ints))), t.2)), k.1))
     ih)
 
-all_put : (P : ℤ → Type 0) (r : ℤ) (xs : List ℤ) → P r → All P xs → All P (put r xs)
+all_put : (P : ℤ → Type 0) (r : ℤ) (xs : List ℤ) → P r → AllByRecursion P xs → AllByRecursion P (put r xs)
 unfolding put
 all_put P r [] h a = (h, tt)
 all_put P r (x ∷ xs) h a =
@@ -81,11 +81,11 @@ all_put P r (x ∷ xs) h a =
     (lt_z x r)
     (r ∷ x ∷ xs)
     (cond (lt_z r x) (x ∷ put r xs) (x ∷ xs))
-    (All P)
+    (AllByRecursion P)
     (λ e. (h, a))
-    (λ e. cond_both (lt_z r x) (x ∷ put r xs) (x ∷ xs) (All P) (λ d. (a.0, all_put P r xs h a.1)) (λ d. a))
+    (λ e. cond_both (lt_z r x) (x ∷ put r xs) (x ∷ xs) (AllByRecursion P) (λ d. (a.0, all_put P r xs h a.1)) (λ d. a))
 
-all_earlies : (P : ℤ → Type 0) (ws : List Window) → All (λ w. P w.early) ws → All P (earlies ws)
+all_earlies : (P : ℤ → Type 0) (ws : List Window) → AllByRecursion (λ w. P w.early) ws → AllByRecursion P (earlies ws)
 unfolding earlies
 all_earlies P [] a = tt
 all_earlies P (w ∷ ws) a = all_put P w.early (earlies ws) a.0 (all_earlies P ws a.1)
@@ -110,7 +110,7 @@ length_earlies (w ∷ ws) = let a = length_put w.early (earlies ws) in let b = l
 
 -- ---- in the words of the field
 
-counts : (ws : List Window) (b r : ℤ) → r <ℤ b → All (λ w. w.early <ℤ b → w.early ≤ℤ r) ws → (l : ℤ) → counted ws b l ≡ counted ws (r +ℤ pos 1) l
+counts : (ws : List Window) (b r : ℤ) → r <ℤ b → AllByRecursion (λ w. w.early <ℤ b → w.early ≤ℤ r) ws → (l : ℤ) → counted ws b l ≡ counted ws (r +ℤ pos 1) l
 counts ws b r h a l =
     same_count
     (enclosed b l)
@@ -133,12 +133,12 @@ counts ws b r h a l =
 abbrev floor : ℤ
 floor = negsuc 86400
 
-pub none_left : (ws : List Window) (b t : ℤ) → All (λ w. floor <ℤ w.early) ws → t ≡ head_or floor (rest ws b) → t ≤ℤ floor → rest ws b ≡ []
+pub none_left : (ws : List Window) (b t : ℤ) → AllByRecursion (λ w. floor <ℤ w.early) ws → t ≡ head_or floor (rest ws b) → t ≤ℤ floor → rest ws b ≡ []
 unfolding rest
 none_left ws b t a e h =
     ⊎_elim (λ k. k.0) (λ k. absurd (omega (arith, ints, k.1, e))) (kept_top floor b (earlies ws) (falling_earlies ws) (all_earlies (λ x. floor <ℤ x) ws a))
 
-pub next_left : (ws : List Window) (b t : ℤ) → All (λ w. floor <ℤ w.early) ws → t ≡ head_or floor (rest ws b) → floor <ℤ t → Next ws b t
+pub next_left : (ws : List Window) (b t : ℤ) → AllByRecursion (λ w. floor <ℤ w.early) ws → t ≡ head_or floor (rest ws b) → floor <ℤ t → Next ws b t
 unfolding rest
 next_left ws b t a e h =
     ⊎_elim
@@ -149,11 +149,11 @@ next_left ws b t a e h =
     made : (r : ℤ) → Top (earlies ws) b (filter (before b) (earlies ws)) r → floor <ℤ r → Next ws b r
     made r k o = record { split = k.0; under = k.1; over = omega (arith, ints); same = counts ws b r k.1 (has_earlies (λ x. x <ℤ b → x ≤ℤ r) ws k.2) }
 
-pub all_left : (ws : List Window) → All (λ w. w.early <ℤ pos 86401) ws → rest ws (pos 86401) ≡ earlies ws
+pub all_left : (ws : List Window) → AllByRecursion (λ w. w.early <ℤ pos 86401) ws → rest ws (pos 86401) ≡ earlies ws
 unfolding rest
 all_left ws a = kept_all (pos 86401) (earlies ws) (all_earlies (λ x. x <ℤ pos 86401) ws a)
 
-pub left_length : (ws : List Window) → All (λ w. w.early <ℤ pos 86401) ws → length (rest ws (pos 86401)) ≤ length ws
+pub left_length : (ws : List Window) → AllByRecursion (λ w. w.early <ℤ pos 86401) ws → length (rest ws (pos 86401)) ≤ length ws
 left_length ws a = let e = ap length (all_left ws a) in let h = length_earlies ws in omega (arith, e, h)
 
 pub rest_none : (b : ℤ) → rest [] b ≡ []

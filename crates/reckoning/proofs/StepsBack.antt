@@ -2,7 +2,7 @@
 use Rattle.std.proofs.Common.{◌≡◌, ℕ, zero, suc, ◌+◌, ◌*◌, ◌<◌, ◌≤◌, Bool, true, false, cond, ◌&&◌, eqb, List, [], ◌∷◌, ◌++◌, reverse, length, get_or, take, drop, ℤ, pos, negsuc, ◌+ℤ◌, ◌-ℤ◌, neg_ℤ, ◌≤ℤ◌, ◌<ℤ◌, Some, None, fold, Option, sym, refl, ap, ◌∙◌, subst, inl, arith}
 use lib.Signed.{le_z, lt_z}
 use Rattle.std.specs.Int.{int_min}
-use Rattle.std.specs.List.{AllByRecursion as All}
+use Rattle.std.specs.List.{AllByRecursion}
 use Rattle.std.proofs.lemmas.Int.{ints, clamps, by_lt_z}
 use Rattle.std.proofs.ByRecursion.{All-weaker, All-get_or, All-append}
 use Rattle.std.proofs.lemmas.List.{take_more, drop_more, take_all, drop_all, length-append, take-append-drop, append-nil, reverse-append}
@@ -57,7 +57,7 @@ back_stays p s f l (suc n) h k =
     ap (λ z. greatest_outside (s ∷ f) (z -ℤ p)) ih ∙ greatest_stays s f (backward p f l n -ℤ p) k
 
 -- a value falls by at most 3600 a step, or to just before a span
-pub back_low : (p : ℤ) (f : List Span) (l : ℤ) (n : ℕ) → pos 1 ≤ℤ p → p ≤ℤ pos 3600 → All Fit f → negsuc 86399 ≤ℤ l → neg_ℤ (pos (90000 + 3600 * n)) ≤ℤ backward p f l n
+pub back_low : (p : ℤ) (f : List Span) (l : ℤ) (n : ℕ) → pos 1 ≤ℤ p → p ≤ℤ pos 3600 → AllByRecursion Fit f → negsuc 86399 ≤ℤ l → neg_ℤ (pos (90000 + 3600 * n)) ≤ℤ backward p f l n
 unfolding backward
 back_low p f l zero h k a b = omega (arith, ints)
 back_low p f l (suc n) h k a b =
@@ -107,7 +107,7 @@ count_length t (w ∷ ws) = go (t w) (count_length t ws)
     go true h = omega arith
     go false h = omega arith
 
-pub same_count : (t u : Window → Bool) (ws : List Window) → All (λ w. t w ≡ u w) ws → count t ws ≡ count u ws
+pub same_count : (t u : Window → Bool) (ws : List Window) → AllByRecursion (λ w. t w ≡ u w) ws → count t ws ≡ count u ws
 same_count t u [] a = refl
 same_count t u (w ∷ ws) a =
     let e = count_front t ws w in
@@ -209,7 +209,7 @@ lows_suc (w ∷ ws) vs (suc j) h = go (le_z v w.late) (lows_suc ws (drop 1 vs) j
 pub lows_more : (ws : List Window) (vs : List ℤ) (j : ℕ) → j < length ws → lows (take (j + 1) ws) vs ≡ lows (take j ws) vs ++ cond (le_z (get_or vs j (pos 0)) (window_at ws j).late) (get_or vs j (pos 0) ∷ []) []
 lows_more ws vs j h = let e : j + 1 ≡ suc j = omega arith in ap (λ k. lows (take k ws) vs) e ∙ lows_suc ws vs j h
 
-pub lows_all : (P : ℤ → Type 0) (ws : List Window) (vs : List ℤ) → All P (lows ws vs) → (j : ℕ) → j < length ws → get_or vs j (pos 0) ≤ℤ (window_at ws j).late → P (get_or vs j (pos 0))
+pub lows_all : (P : ℤ → Type 0) (ws : List Window) (vs : List ℤ) → AllByRecursion P (lows ws vs) → (j : ℕ) → j < length ws → get_or vs j (pos 0) ≤ℤ (window_at ws j).late → P (get_or vs j (pos 0))
 unfolding lows
 lows_all P [] vs a j h k = absurd (omega arith)
 lows_all P (w ∷ ws) vs a j h k = go (lows_all P ws (drop 1 vs)) (le_z (get_or vs 0 (pos 0)) w.late) refl a j h k
@@ -217,7 +217,7 @@ lows_all P (w ∷ ws) vs a j h k = go (lows_all P ws (drop 1 vs)) (le_z (get_or 
     v : ℤ
     v = get_or vs 0 (pos 0)
 
-    go : (All P (lows ws (drop 1 vs)) → (j : ℕ) → j < length ws → get_or (drop 1 vs) j (pos 0) ≤ℤ (window_at ws j).late → P (get_or (drop 1 vs) j (pos 0))) → (b : Bool) → le_z v w.late ≡ b → All P (cond b (v ∷ lows ws (drop 1 vs)) (lows ws (drop 1 vs))) → (j : ℕ) → j < suc (length ws) → get_or vs j (pos 0) ≤ℤ (window_at (w ∷ ws) j).late → P (get_or vs j (pos 0))
+    go : (AllByRecursion P (lows ws (drop 1 vs)) → (j : ℕ) → j < length ws → get_or (drop 1 vs) j (pos 0) ≤ℤ (window_at ws j).late → P (get_or (drop 1 vs) j (pos 0))) → (b : Bool) → le_z v w.late ≡ b → AllByRecursion P (cond b (v ∷ lows ws (drop 1 vs)) (lows ws (drop 1 vs))) → (j : ℕ) → j < suc (length ws) → get_or vs j (pos 0) ≤ℤ (window_at (w ∷ ws) j).late → P (get_or vs j (pos 0))
     go ih true e a zero h k = a.0
     go ih false e a zero h k = let d = leZ_false v w.late e in absurd (omega (arith, ints))
     go ih true e a (suc j) h k = let q = drop_one vs j in subst P q (ih a.1 j (omega arith) (subst (λ z. z ≤ℤ (window_at ws j).late) (sym q) k))
@@ -321,13 +321,13 @@ partly_here p ws f g r vs us h e k m j l = go (le_z (window_at ws g).late t) ref
         ∙ k j l
         ∙ ap (backward p f (window_at ws j).late) (sym (far_later ws g r (window_at ws j).late h (leZ_false (window_at ws g).late (window_at ws j).late q)))
 
-pub near_back : (p : ℤ) (f : List Span) (l v : ℤ) (n : ℕ) → Pace p → All Fit f → negsuc 86399 ≤ℤ l → l ≤ℤ pos 86400 → n ≤ 64 → v ≡ backward p f l n → Near v
+pub near_back : (p : ℤ) (f : List Span) (l v : ℤ) (n : ℕ) → Pace p → AllByRecursion Fit f → negsuc 86399 ≤ℤ l → l ≤ℤ pos 86400 → n ≤ 64 → v ≡ backward p f l n → Near v
 near_back p f l v n h a b d k e =
     let low = back_low p f l n h.0 h.1 a b in
     let high = back_high p f l n h.0 in
     (omega (arith, ints, low, e, k), omega (arith, ints, high, e, h.1))
 
-pub partly_near : (p : ℤ) (ws : List Window) (f : List Span) (g : ℕ) (r : ℤ) (vs : List ℤ) → Pace p → All Fit f → All Timed ws → length ws ≤ 64 → Partly p ws f g r vs → (j : ℕ) → j < length ws → Near (get_or vs j (pos 0))
+pub partly_near : (p : ℤ) (ws : List Window) (f : List Span) (g : ℕ) (r : ℤ) (vs : List ℤ) → Pace p → AllByRecursion Fit f → AllByRecursion Timed ws → length ws ≤ 64 → Partly p ws f g r vs → (j : ℕ) → j < length ws → Near (get_or vs j (pos 0))
 unfolding Partly
 partly_near p ws f g r vs h a t s k j l =
     let w = All-get_or Timed ws j outside l t in
@@ -357,6 +357,6 @@ lows_none vs = refl
 pub partly_same : (p q : ℤ) (ws : List Window) (f : List Span) (g : ℕ) (r s : ℤ) (vs : List ℤ) → p ≡ q → r ≡ s → Partly p ws f g r vs → Partly q ws f g s vs
 partly_same p q ws f g r s vs e d k = subst (λ z. Partly z ws f g s vs) e (subst (λ z. Partly p ws f g z vs) d k)
 
-pub all_reverse : {X : Type 0} (P : X → Type 0) (xs : List X) → All P xs → All P (reverse xs)
+pub all_reverse : {X : Type 0} (P : X → Type 0) (xs : List X) → AllByRecursion P xs → AllByRecursion P (reverse xs)
 all_reverse P [] a = tt
-all_reverse P (x ∷ xs) a = subst (All P) (sym (reverse-append (x ∷ []) xs)) (All-append P (reverse xs) (x ∷ []) (all_reverse P xs a.1) (a.0, tt))
+all_reverse P (x ∷ xs) a = subst (AllByRecursion P) (sym (reverse-append (x ∷ []) xs)) (All-append P (reverse xs) (x ∷ []) (all_reverse P xs a.1) (a.0, tt))

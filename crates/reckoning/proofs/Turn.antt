@@ -3,7 +3,7 @@ use Rattle.std.proofs.Common.{◌≡◌, ℕ, zero, suc, ◌+◌, ◌<◌, ◌�
 use Rattle.std.proofs.lemmas.List.{reverse-reverse, reverse-append, length-reverse, length-take-le}
 use lib.Signed.{le_z, lt_z}
 use Rattle.std.specs.Int.{int_min}
-use Rattle.std.specs.List.{AllByRecursion as All}
+use Rattle.std.specs.List.{AllByRecursion}
 use Rattle.std.proofs.lemmas.Int.{ints}
 use Rattle.std.proofs.ByRecursion.{folded_min_z_bounds, All-weaker}
 use Rattle.std.proofs.lemmas.Bool.{cond-true, cond-false, and_parts}
@@ -23,13 +23,13 @@ pub record Along (p : ℤ) (ws : List Window) (b : ℤ) (f : List Span) (vs : Li
   pub left : steps p ws (rest ws b) f ≡ forbidden p ws
   pub kept : Kept p ws f b vs
   pub falling : Falling f
-  pub fit : All Fit f
-  pub ends : All (λ s. b ≤ℤ (s.last +ℤ pos 1)) f
+  pub fit : AllByRecursion Fit f
+  pub ends : AllByRecursion (λ s. b ≤ℤ (s.last +ℤ pos 1)) f
   pub room : length f + length (rest ws b) ≤ length ws
   pub high : b ≤ℤ pos 86401
 
-module _ (p : ℤ) (pace : Pace p) (ws : List Window) (timed : All Timed ws) where
-  early_high : All (λ w. w.early <ℤ pos 86401) ws
+module _ (p : ℤ) (pace : Pace p) (ws : List Window) (timed : AllByRecursion Timed ws) where
+  early_high : AllByRecursion (λ w. w.early <ℤ pos 86401) ws
   early_high = All-weaker Timed (λ w. w.early <ℤ pos 86401) (λ w t. omega (arith, ints, t.1)) ws timed
 
   pub setting_out : (vs : List ℤ) → ((j : ℕ) → j < length ws → get_or vs j (pos 0) ≡ (window_at ws j).late +ℤ p) → Along p ws (pos 86401) [] vs
@@ -156,8 +156,8 @@ cap_real p ws b r f vs h a n = near_real (r +ℤ p) (omega (arith, ints, n.over,
 pub capped_high : (p r m : ℤ) (xs : List ℤ) → m ≡ fold int_min (r +ℤ p) xs → m ≤ℤ (r +ℤ p)
 capped_high p r m xs e = (folded_min_z_bounds (r +ℤ p) xs m e).0
 
-pub all_found : (xs : List Span) → All Fit (reverse xs) → All Fit xs
-all_found xs a = subst (All Fit) (reverse-reverse xs) (all_reverse Fit (reverse xs) a)
+pub all_found : (xs : List Span) → AllByRecursion Fit (reverse xs) → AllByRecursion Fit xs
+all_found xs a = subst (AllByRecursion Fit) (reverse-reverse xs) (all_reverse Fit (reverse xs) a)
 
 pub grown_is : (xs ys : List Span) (s : Span) (t : Bool) → ys ≡ cond t xs (xs ++ s ∷ []) → reverse ys ≡ cond t (reverse xs) (s ∷ reverse xs)
 grown_is xs ys s true e = ap reverse e
@@ -170,7 +170,7 @@ still_room p ws b r xs n vs h k a e =
     let z = ap length e.split in
     omega (arith, x, y, z, a.room)
 
-pub turned_on : (p : ℤ) (pace : Pace p) (ws : List Window) (timed : All Timed ws) (b r m : ℤ) (xs ys : List Span) (s : Span) (vs us : List ℤ) → Along p ws b (reverse xs) vs → Next ws b r → Kept p ws (reverse xs) r us → m ≡ fold int_min (r +ℤ p) (lows ws us) → r ≤ℤ m → s ≡ joining p pace ws timed m r → ys ≡ cond (lt_z s.last s.first) xs (xs ++ s ∷ []) → Along p ws r (reverse ys) us
+pub turned_on : (p : ℤ) (pace : Pace p) (ws : List Window) (timed : AllByRecursion Timed ws) (b r m : ℤ) (xs ys : List Span) (s : Span) (vs us : List ℤ) → Along p ws b (reverse xs) vs → Next ws b r → Kept p ws (reverse xs) r us → m ≡ fold int_min (r +ℤ p) (lows ws us) → r ≤ℤ m → s ≡ joining p pace ws timed m r → ys ≡ cond (lt_z s.last s.first) xs (xs ++ s ∷ []) → Along p ws r (reverse ys) us
 turned_on p pace ws timed b r m xs ys s vs us a n k e h q d =
     let j = joining p pace ws timed m r in
     let g = grown_is xs ys j (lt_z j.last j.first) (d ∙ ap (λ z. cond (lt_z z.last z.first) xs (xs ++ z ∷ [])) q) in

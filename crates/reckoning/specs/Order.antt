@@ -1,6 +1,6 @@
 -- The list of the written order.
 use Rattle.std.specs.Prelude.{◌≡◌, ℕ, ◌<◌, List, [], ◌∷◌, map, length, drop, ℤ, pos, ◌+ℤ◌, ◌≤ℤ◌, Result, ◌≢◌, slice_index, slice_index_or}
-use Rattle.std.specs.List.{AllByRecursion as All}
+use Rattle.std.specs.List.{AllByRecursion}
 use Rattle.field.specs.declared.window.Window.{Window}
 use Rattle.field.specs.Windows.{outside}
 use Rattle.theory.specs.declared.span.Span.{Span}
@@ -36,18 +36,18 @@ order_told p ws ns room = told p ws room (λ f. map (start_of ns) (played (pos p
 -- every later entry starts at least the pace later
 abbrev pub Ascending : ℤ → List Start → Type 0
 Ascending p [] = Unit {0}
-Ascending p (e ∷ es) = All (λ d. (e.start +ℤ p) ≤ℤ d.start) es × Ascending p es
+Ascending p (e ∷ es) = AllByRecursion (λ d. (e.start +ℤ p) ≤ℤ d.start) es × Ascending p es
 
 -- no place comes twice
 abbrev pub Once : List Start → Type 0
 Once [] = Unit {0}
-Once (e ∷ es) = All (λ d. d.place ≢ e.place) es × Once es
+Once (e ∷ es) = AllByRecursion (λ d. d.place ≢ e.place) es × Once es
 
 -- the entries are an order of play: each place once with its start, in ascending starts
 pub record Plays (p : ℤ) (ws : List Window) (es : List Start) : Type 0 where
   pub starts : List ℤ
   pub order : OrderOfPlay p ws starts
   pub whole : length es ≡ length ws
-  pub listed : All (λ e. (e.place < length ws) × (start_at starts e.place ≡ e.start)) es
+  pub listed : AllByRecursion (λ e. (e.place < length ws) × (start_at starts e.place ≡ e.start)) es
   pub once : Once es
   pub ascending : Ascending p es

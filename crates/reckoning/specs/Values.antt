@@ -1,6 +1,6 @@
 -- Words of the code's own loops: the value that is kept for each place, and the earlies that are left.
 use Rattle.std.specs.Prelude.{◌≡◌, ℕ, ◌<◌, cond, List, [], ◌∷◌, length, get_or, drop, ℤ, pos, negsuc, ◌+ℤ◌, ◌≤ℤ◌, ◌<ℤ◌, filter, int_le, int_lt, slice_index_or}
-use Rattle.std.specs.List.{AllByRecursion as All}
+use Rattle.std.specs.List.{AllByRecursion}
 use Rattle.theory.specs.Orders.{counted, window_at}
 use Rattle.theory.specs.Closed.{backward}
 use Rattle.theory.specs.Method.{earlies}
@@ -10,7 +10,7 @@ use Rattle.theory.specs.declared.span.Span.{Span}
 -- the newest span first: each ends before those found before it
 abbrev pub Falling : List Span → Type 0
 Falling [] = Unit {0}
-Falling (s ∷ f) = All (λ o. s.last <ℤ o.last) f × Falling f
+Falling (s ∷ f) = AllByRecursion (λ o. s.last <ℤ o.last) f × Falling f
 
 -- -89999 is the least time that a span can begin at
 abbrev pub Fit : Span → Type 0

@@ -2,7 +2,7 @@
 
 ghost use Rattle.std.specs.Prelude.{◌≡◌, reverse, pos, ◌+ℤ◌, ◌-ℤ◌, if◌then◌else◌};
 ghost use Rattle.reckoning.specs.Values.{Falling, Fit};
-ghost use Rattle.std.specs.List.{AllByRecursion as All};
+ghost use Rattle.std.specs.List.{AllByRecursion};
 ghost use Rattle.theory.specs.Closed.{covers, greatest_outside, least_outside};
 
 use theory::Span;
@@ -40,7 +40,7 @@ fn after(span: Span, time: i64) -> i64
 /// The greatest time at or before `time` outside the spans, which are in the order found.
 pub fn greatest_outside(found: &[Span], time: i64) -> i64
     requires falling { Falling (reverse found.now) }
-    requires fit { All Fit found.now }
+    requires fit { AllByRecursion Fit found.now }
     ensures { result ≡ greatest_outside (reverse found.now) time }
 {
     let mut low = time;
@@ -53,7 +53,7 @@ pub fn greatest_outside(found: &[Span], time: i64) -> i64
 /// The least time at or after `time` outside the spans, which are in the order found.
 pub fn least_outside(found: &[Span], time: i64) -> i64
     requires falling { Falling (reverse found.now) }
-    requires fit { All Fit found.now }
+    requires fit { AllByRecursion Fit found.now }
     ensures { result ≡ least_outside (reverse found.now) time }
 {
     let mut high = time;

@@ -6,7 +6,7 @@ ghost use Rattle.reckoning.specs.Lists.{answer, leaves, Thirteen};
 ghost use Rattle.reckoning.specs.Order.{least_of, chosen_of, played, start_of, order_told, Plays};
 ghost use Rattle.reckoning.specs.Values.{Falling, Fit, Timed, Pace};
 ghost use Rattle.std.specs.Int.{int_min, int_max};
-ghost use Rattle.std.specs.List.{AllByRecursion as All};
+ghost use Rattle.std.specs.List.{AllByRecursion};
 ghost use Rattle.theory.specs.Written.{by_place, goes_first, without};
 
 use crate::closed::least_outside;
@@ -101,10 +101,10 @@ fn released(time: i64, early: i64) -> i64
 fn play(windows: &[Window], pace: i64, found: &[Span], out: &mut [Played]) -> usize
     requires few { length windows.now ≤ 64 }
     requires room { length windows.now ≤ length out.old }
-    requires timed { All Timed windows.now }
+    requires timed { AllByRecursion Timed windows.now }
     requires pace { Pace pace }
     requires falling { Falling (reverse found.now) }
-    requires fit { All Fit found.now }
+    requires fit { AllByRecursion Fit found.now }
     ensures answer { result ≡ length (played pace (reverse found.now) windows.now) }
     ensures list { take result out.new ≡ played pace (reverse found.now) windows.now }
     ensures fewer { result ≤ length windows.now }

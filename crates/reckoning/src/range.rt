@@ -4,7 +4,7 @@ ghost use Rattle.std.specs.Prelude.{◌≡◌, ◌<◌, true, pos, negsuc, ◌�
 ghost use Rattle.reckoning.specs.Range.{RangeTold, FirstTold};
 ghost use Rattle.reckoning.specs.Told.{windows_of};
 ghost use Rattle.reckoning.specs.Values.{Timed, Pace, Near};
-ghost use Rattle.std.specs.List.{AllByRecursion as All};
+ghost use Rattle.std.specs.List.{AllByRecursion};
 ghost use Rattle.theory.specs.Method.{forbidden};
 ghost use Rattle.theory.specs.Orders.{window_at};
 ghost use Rattle.theory.specs.Theorem.{cut, First};
@@ -18,7 +18,7 @@ use field::{Field, Lent, Refusal, Reversed};
 /// Has the field an order of play with the window of a place cut to its early..late?
 fn is_possible(windows: &Windows, place: usize, late: i64, pace: i64) -> bool
     requires inside { place < windows.now.len }
-    requires timed { All Timed (windows_of windows.now) }
+    requires timed { AllByRecursion Timed (windows_of windows.now) }
     requires late { (negsuc 86399 ≤ℤ late) × (late ≤ℤ pos 86400) }
     requires pace { Pace pace }
     ensures { result ≡ is_some (forbidden pace (cut (windows_of windows.now) place late)) }
@@ -40,7 +40,7 @@ fn middle(low: i64, high: i64) -> i64
 /// The least time to which the window of a place can be cut.
 fn bisect(windows: &Windows, place: usize, pace: i64) -> i64
     requires inside { place < windows.now.len }
-    requires timed { All Timed (windows_of windows.now) }
+    requires timed { AllByRecursion Timed (windows_of windows.now) }
     requires upright { (window_at (windows_of windows.now) place).early ≤ℤ (window_at (windows_of windows.now) place).late }
     requires pace { Pace pace }
     requires possible { is_some (forbidden pace (windows_of windows.now)) ≡ true }

@@ -3,7 +3,7 @@
 ghost use Rattle.std.specs.Prelude.{◌≡◌, ◌≤◌, reverse, length, pos, ◌+ℤ◌, ◌-ℤ◌, IfSome};
 ghost use Rattle.reckoning.specs.Told.{spans_of, told};
 ghost use Rattle.reckoning.specs.Values.{Falling, Fit, Timed, Pace, Near};
-ghost use Rattle.std.specs.List.{AllByRecursion as All};
+ghost use Rattle.std.specs.List.{AllByRecursion};
 ghost use Rattle.theory.specs.Method.{forbidden};
 
 use crate::found::Closed;
@@ -25,10 +25,10 @@ fn joining(m: i64, pace: i64, early: i64) -> Span
 /// The closed spans, or none if there is no order of play.
 pub fn reckon(windows: &[Window], pace: i64) -> Option<Closed>
     requires few { length windows.now ≤ 64 }
-    requires timed { All Timed windows.now }
+    requires timed { AllByRecursion Timed windows.now }
     requires pace { Pace pace }
     ensures told { told result ≡ forbidden pace windows.now }
-    ensures sound { IfSome result (λ c. Falling (reverse (spans_of c)) × All Fit (spans_of c) × (length (spans_of c) ≤ length windows.now)) }
+    ensures sound { IfSome result (λ c. Falling (reverse (spans_of c)) × AllByRecursion Fit (spans_of c) × (length (spans_of c) ≤ length windows.now)) }
 {
     let mut closed = Closed::none();
     let mut values = [0; 64];

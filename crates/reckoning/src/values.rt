@@ -3,7 +3,7 @@
 ghost use Rattle.std.specs.Prelude.{◌≡◌, ℕ, ◌<◌, ◌≤◌, ◌&&◌, [], reverse, length, pos, negsuc, ◌+ℤ◌, ◌-ℤ◌, if◌then◌else◌, fold, MatchOption, int_le, int_lt, slice_index_or};
 ghost use Rattle.reckoning.specs.Values.{Falling, Fit, Timed, Kept, lows, rest, head_or, Next, Near, Pace};
 ghost use Rattle.std.specs.Int.{int_min};
-ghost use Rattle.std.specs.List.{AllByRecursion as All};
+ghost use Rattle.std.specs.List.{AllByRecursion};
 ghost use Rattle.theory.specs.Orders.{window_at};
 ghost use Rattle.theory.specs.Closed.{greatest_outside};
 
@@ -23,7 +23,7 @@ fn opening(w: Window, pace: i64) -> i64
 /// No window has come in yet: each value is the late and the pace.
 pub fn begin(windows: &[Window], pace: i64, values: &mut [i64])
     requires room { length windows.now ≤ length values.old }
-    requires timed { All Timed windows.now }
+    requires timed { AllByRecursion Timed windows.now }
     requires pace { Pace pace }
     ensures { (j : ℕ) → j < length windows.now → slice_index_or values.new j (pos 0) ≡ (window_at windows.now j).late +ℤ pace }
 {
@@ -36,7 +36,7 @@ pub fn begin(windows: &[Window], pace: i64, values: &mut [i64])
 fn moved(w: Window, pace: i64, found: &[Span], new: Window, value: i64) -> i64
     requires pace { Pace pace }
     requires falling { Falling (reverse found.now) }
-    requires fit { All Fit found.now }
+    requires fit { AllByRecursion Fit found.now }
     requires near { Near value }
     ensures { result ≡ (if int_le new.late w.late then greatest_outside (reverse found.now) (value -ℤ pace) else value) }
 {
@@ -52,7 +52,7 @@ fn move_back(windows: &[Window], pace: i64, found: &[Span], new: Window, values:
     requires room { length windows.now ≤ length values.old }
     requires pace { Pace pace }
     requires falling { Falling (reverse found.now) }
-    requires fit { All Fit found.now }
+    requires fit { AllByRecursion Fit found.now }
     requires near { (j : ℕ) → j < length windows.now → Near (slice_index_or values.old j (pos 0)) }
     ensures { (j : ℕ) → j < length windows.now → slice_index_or values.new j (pos 0) ≡ (if int_le new.late (window_at windows.now j).late then greatest_outside (reverse found.now) (slice_index_or values.old j (pos 0) -ℤ pace) else slice_index_or values.old j (pos 0)) }
 {
@@ -65,10 +65,10 @@ fn move_back(windows: &[Window], pace: i64, found: &[Span], new: Window, values:
 pub fn come_in(windows: &[Window], pace: i64, found: &[Span], early: i64, values: &mut [i64])
     requires room { length windows.now ≤ length values.old }
     requires few { length windows.now ≤ 64 }
-    requires timed { All Timed windows.now }
+    requires timed { AllByRecursion Timed windows.now }
     requires pace { Pace pace }
     requires falling { Falling (reverse found.now) }
-    requires fit { All Fit found.now }
+    requires fit { AllByRecursion Fit found.now }
     requires kept { Kept pace windows.now (reverse found.now) (early +ℤ pos 1) values.old }
     ensures { Kept pace windows.now (reverse found.now) early values.new }
 {
@@ -115,7 +115,7 @@ fn later(w: Window, bound: i64, top: i64) -> i64
 
 /// The greatest early before `bound`, or a time before all of them.
 fn top_early(windows: &[Window], bound: i64) -> i64
-    requires timed { All Timed windows.now }
+    requires timed { AllByRecursion Timed windows.now }
     ensures { result ≡ head_or (negsuc 86400) (rest windows.now bound) }
 {
     let mut top = -86_401;
@@ -127,7 +127,7 @@ fn top_early(windows: &[Window], bound: i64) -> i64
 
 /// The greatest early before `bound`.
 pub fn next_early(windows: &[Window], bound: i64) -> Option<i64>
-    requires timed { All Timed windows.now }
+    requires timed { AllByRecursion Timed windows.now }
     ensures { MatchOption result (rest windows.now bound ≡ []) (λ e. Next windows.now bound e) }
 {
     let top = top_early(windows, bound);

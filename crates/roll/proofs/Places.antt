@@ -2,7 +2,7 @@
 use Rattle.std.proofs.Common.{◌≡◌, ℕ, suc, ◌+◌, ◌<◌, Bool, true, false, cond, eqb, ltb, List, [], ◌∷◌, ◌++◌, map, length, get_or, set, refl, ap, ◌∙◌, arith}
 use Rattle.std.proofs.lemmas.List.{take_all, drop_all}
 use Rattle.std.proofs.lemmas.Bool.{and_parts, ltb-true, le-ltb, ne_eqb, eq-eqb}
-use Rattle.std.specs.List.{insert, list_all, AllByRecursion as All}
+use Rattle.std.specs.List.{insert, list_all, AllByRecursion}
 use Rattle.sheet.specs.declared.row.Row.{Row}
 use Rattle.sheet.specs.Standings.{nobody}
 use Rattle.sheet.specs.Content.{place, place_for, rising, numbers_of}
@@ -10,7 +10,7 @@ use Rattle.roll.proofs.Loosening.{as_waiting}
 
 -- all have a lower number
 abbrev pub Below : ℕ → List Row → Type 0
-Below g rs = All (λ r. r.number < g) rs
+Below g rs = AllByRecursion (λ r. r.number < g) rs
 
 passes_middle : (t : ℕ → Bool) (ds : List Row) (r : Row) (ts : List Row) → list_all t (numbers_of (ds ++ r ∷ ts)) ≡ true → t r.number ≡ true
 passes_middle t [] r ts h = (and_parts (t r.number) (list_all t (numbers_of ts)) h).0

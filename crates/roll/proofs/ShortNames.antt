@@ -1,7 +1,7 @@
 -- No name that a roll gives has more than 20 bytes.
 use Rattle.std.proofs.Common.{◌≡◌, ℕ, zero, suc, ◌+◌, ◌-◌, ◌≤◌, Bool, true, false, cond, ◌&&◌, eqb, leb, List, [], ◌∷◌, length, drop, Some, None, Ok, Err, Option, Result, sym, refl, ap, ◌∙◌, subst, arith, length-drop}
 use Rattle.std.proofs.lemmas.Bool.{and_parts, leb-true}
-use Rattle.std.specs.List.{AllByRecursion as All}
+use Rattle.std.specs.List.{AllByRecursion}
 use Rattle.sheet.specs.declared.call.Call.{Call}
 use Rattle.sheet.specs.declared.call.Call.TheVariants.{Enter, Change, Withdraw, Pace, CallUp, StandDown, SendAway, Open, Keep, Back, Order, Through, RangeOf, Spans}
 use Rattle.sheet.specs.Questions.{answered}
@@ -50,7 +50,7 @@ parsed_short bs r e s i =
     subst Short p.1 (says_short (kind bs) (body bs) y.1.1.0)
 
 abbrev Shorts : Meaning → Type 0
-Shorts m = All (λ p. Short p.said) m.records
+Shorts m = AllByRecursion (λ p. Short p.said) m.records
 
 continued_short : (r : Result Said ℕ) (turn place : ℕ) (rest : Meaning) → ((s : Said) → r ≡ Ok s → Short s) → Shorts rest → Shorts (continued r turn place rest)
 continued_short (Ok s) turn place rest f g = (f s refl, g)
@@ -89,7 +89,7 @@ renamed_short g given (Through n t) name h k = k
 renamed_short g given (RangeOf n) name h k = k
 renamed_short g given Spans name h k = k
 
-last_short : (g : ℕ) (name : List ℕ) (ps : List Placed) → length name ≤ 20 → All (λ p. Short p.said) ps → length (last_name g name ps) ≤ 20
+last_short : (g : ℕ) (name : List ℕ) (ps : List Placed) → length name ≤ 20 → AllByRecursion (λ p. Short p.said) ps → length (last_name g name ps) ≤ 20
 last_short g name [] h k = h
 last_short g name (p ∷ ps) h k = last_short g (renamed g p.said.name p.said.call name) ps (renamed_short g p.said.name p.said.call name k.0 h) k.1
 

@@ -1,6 +1,6 @@
 -- What the tests decide is what the questions of the book ask, 13 by the existence of an order of play.
 use Rattle.std.proofs.Common.{◌≡◌, ℕ, ◌<◌, Bool, true, false, cond, eqb, ltb, leb, List, [], ◌∷◌, ◌++◌, Some, None, Option, sym, refl, ap, ◌∙◌, subst, inl, inr, arith}
-use Rattle.std.specs.List.{AllByRecursion as All}
+use Rattle.std.specs.List.{AllByRecursion}
 use Rattle.std.proofs.ByRecursion.{All-weaker, kept_by_passes}
 use Rattle.std.proofs.lemmas.Bool.{and_parts, both_ways, eqb-true, leb-true, ltb-true, false≢true}
 use Rattle.field.specs.Refusals.{Question, first_no}
@@ -25,7 +25,7 @@ same_some e = cc
 -- ---- questions in a row
 
 -- the number of a no is one of theirs
-no_among : (P : ℕ → Type 0) (qs : List Question) (n : ℕ) → All (λ q. P q.number) qs → first_no qs ≡ Some n → P n
+no_among : (P : ℕ → Type 0) (qs : List Question) (n : ℕ) → AllByRecursion (λ q. P q.number) qs → first_no qs ≡ Some n → P n
 no_among P [] n a e = none_some e
 no_among P (q ∷ qs) n a e = go q.yes e (λ d. no_among P qs n a.1 d)
   where

@@ -1,6 +1,6 @@
 -- Number 13 in the subject's words, from what the questions decide.
 use Rattle.std.proofs.Common.{◌≡◌, ℕ, ◌<◌, Bool, true, false, cond, List, [], ◌∷◌, ◌++◌, ℤ, Some, None, Option, Result, sym, refl, ap, ◌∙◌, arith}
-use Rattle.std.specs.List.{AllByRecursion as All}
+use Rattle.std.specs.List.{AllByRecursion}
 use Rattle.std.proofs.lemmas.Bool.{both_ways, cond-false}
 use Rattle.field.specs.declared.refusal.Refusal.{Refusal}
 use Rattle.field.specs.Refusals.{by_number, Question, question, first_no}
@@ -13,7 +13,7 @@ use Rattle.field.proofs.InARow.{all_yes, no_later}
 use Rattle.sheet.proofs.Stopping.{refused_by}
 
 -- where the last of questions in a row is 13 and gives the number, all others are passed and it is a no
-last_decides : (ps : List Question) (b : Bool) → All (λ q. q.number < 13) ps → first_no (ps ++ question 13 b ∷ []) ≡ Some 13 → (first_no ps ≡ None) × (b ≡ false)
+last_decides : (ps : List Question) (b : Bool) → AllByRecursion (λ q. q.number < 13) ps → first_no (ps ++ question 13 b ∷ []) ≡ Some 13 → (first_no ps ≡ None) × (b ≡ false)
 last_decides [] b a e = (refl, go b e)
   where
     go : (b : Bool) → ◌≡◌ {A = Option ℕ} (cond b None (Some 13)) (Some 13) → b ≡ false
@@ -26,7 +26,7 @@ last_decides (q ∷ ps) b a e = go q.yes e (λ d. last_decides ps b a.1 d)
     go false d ih = let z : q.number ≡ 13 = cc in absurd (let h = a.0 in omega arith)
 
 -- ps are the questions before 13
-module _ {X : Type 0} (c : Content) (call : Call) (room : ℕ) (ps : List Question) (all : questions c call room ≡ ps ++ q_order (change_made call c) ∷ []) (before : before_13 (questions c call room) ≡ ps) (low : All (λ q. q.number < 13) ps) (steady : first_no ps ≡ None → paced (change_made call c).pace ≡ true) where
+module _ {X : Type 0} (c : Content) (call : Call) (room : ℕ) (ps : List Question) (all : questions c call room ≡ ps ++ q_order (change_made call c) ∷ []) (before : before_13 (questions c call room) ≡ ps) (low : AllByRecursion (λ q. q.number < 13) ps) (steady : first_no ps ≡ None → paced (change_made call c).pace ≡ true) where
   pub thirteen : (r : Result X Refusal) (x : X) → by_number r ≡ answered (first_no (questions c call room)) x → Thirteen c call room r
   thirteen r x e =
       let new = change_made call c in

@@ -2,7 +2,7 @@
 use Rattle.std.proofs.Common.{◌≡◌, ℕ, zero, suc, ◌+◌, ◌<◌, ◌≤◌, Bool, true, false, cond, not, ◌||◌, eqb, ◌⊎◌, List, [], ◌∷◌, map, length, ℤ, pos, ◌+ℤ◌, ◌≤ℤ◌, Some, sym, refl, ap, ◌∙◌, subst, inl, inr, ⊎_elim, arith}
 use lib.Signed.{le_z, lt_z}
 use Rattle.std.specs.Int.{int_min, int_max}
-use Rattle.std.specs.List.{AllByRecursion as All}
+use Rattle.std.specs.List.{AllByRecursion}
 use Rattle.std.proofs.lemmas.Int.{ints, by_lt_z, clamps}
 use Rattle.std.proofs.ByRecursion.{All-weaker, All-get_or, all_kept_by, All-map}
 use Rattle.std.proofs.lemmas.List.{length-map}
@@ -32,7 +32,7 @@ abbrev pub Among : Group → List Group → Type 0
 Among h [] = ⊥
 Among h (x ∷ xs) = (x ≡ h) ⊎ Among h xs
 
-pub all_among : (P : Group → Type 0) (h : Group) (gs : List Group) → All P gs → Among h gs → P h
+pub all_among : (P : Group → Type 0) (h : Group) (gs : List Group) → AllByRecursion P gs → Among h gs → P h
 all_among P h [] a m = absurd m
 all_among P h (x ∷ xs) a (inl e) = subst P e a.0
 all_among P h (x ∷ xs) a (inr m) = all_among P h xs a.1 m
@@ -47,7 +47,7 @@ chosen_among t g (h ∷ hs) =
 abbrev Best : ℤ → Group → Group → Type 0
 Best t b x = x.win.early ≤ℤ t → (b.win.early ≤ℤ t) × (b.win.late ≤ℤ x.win.late)
 
-chosen_best : (t : ℤ) (g : Group) (gs : List Group) → All (Best t (chosen t g gs)) (g ∷ gs)
+chosen_best : (t : ℤ) (g : Group) (gs : List Group) → AllByRecursion (Best t (chosen t g gs)) (g ∷ gs)
 unfolding chosen
 chosen_best t g [] = ((λ h. (h, omega (arith, ints))), tt)
 chosen_best t g (h ∷ hs) =
@@ -60,7 +60,7 @@ chosen_best t g (h ∷ hs) =
     (goes_first t g b)
     g
     b
-    (λ z. All (Best t z) (g ∷ h ∷ hs))
+    (λ z. AllByRecursion (Best t z) (g ∷ h ∷ hs))
     (λ e.
     let k = and_parts here (later || sooner) e in
     let a = leZ_true g.win.early t k.0 in (
@@ -92,7 +92,7 @@ chosen_best t g (h ∷ hs) =
       ih,
     ))
 
-least_early_le : (g : Group) (gs : List Group) → All (λ x. least_early g gs ≤ℤ x.win.early) (g ∷ gs)
+least_early_le : (g : Group) (gs : List Group) → AllByRecursion (λ x. least_early g gs ≤ℤ x.win.early) (g ∷ gs)
 unfolding least_early
 least_early_le g [] = (omega (arith, ints), tt)
 least_early_le g (h ∷ hs) = (
@@ -106,7 +106,7 @@ least_early_le g (h ∷ hs) = (
 )
 
 -- a group is released at any time from the least early on
-released : (P : Type 0) (t : ℤ) (g : Group) (gs : List Group) → least_early g gs ≤ℤ t → All (λ x. x.win.early ≤ℤ t → P) (g ∷ gs) → P
+released : (P : Type 0) (t : ℤ) (g : Group) (gs : List Group) → least_early g gs ≤ℤ t → AllByRecursion (λ x. x.win.early ≤ℤ t → P) (g ∷ gs) → P
 unfolding least_early
 released P t g [] h a = a.0 h
 released P t g (x ∷ xs) h a =
@@ -172,16 +172,16 @@ without_lt f h (x ∷ xs) (inr m) e =
     let b = count_cons f x.win (wins (without h.place xs)) (wins xs) (without_lt f h xs m e) in
     omega (arith, a, b)
 
-all_without : (P : Group → Type 0) (i : ℕ) (gs : List Group) → All P gs → All P (without i gs)
+all_without : (P : Group → Type 0) (i : ℕ) (gs : List Group) → AllByRecursion P gs → AllByRecursion P (without i gs)
 unfolding without
 all_without P i gs a = all_kept_by (λ g. not (eqb g.place i)) P gs a
 
-from_without : (P : Group → Type 0) (i : ℕ) (gs : List Group) → All P (without i gs) → All (λ x. (x.place ≡ i) ⊎ P x) gs
+from_without : (P : Group → Type 0) (i : ℕ) (gs : List Group) → AllByRecursion P (without i gs) → AllByRecursion (λ x. (x.place ≡ i) ⊎ P x) gs
 unfolding without
 from_without P i [] a = tt
 from_without P i (x ∷ xs) a = go (from_without P i xs) (eqb x.place i) refl a
   where
-    go : (All P (without i xs) → All (λ x. (x.place ≡ i) ⊎ P x) xs) → (b : Bool) → eqb x.place i ≡ b → All P (cond (not b) (x ∷ without i xs) (without i xs)) → All (λ x. (x.place ≡ i) ⊎ P x) (x ∷ xs)
+    go : (AllByRecursion P (without i xs) → AllByRecursion (λ x. (x.place ≡ i) ⊎ P x) xs) → (b : Bool) → eqb x.place i ≡ b → AllByRecursion P (cond (not b) (x ∷ without i xs) (without i xs)) → AllByRecursion (λ x. (x.place ≡ i) ⊎ P x) (x ∷ xs)
     go ih true e a = (inl (eqb-true x.place i e), ih a)
     go ih false e a = (inr a.0, ih a.1)
 
@@ -193,9 +193,9 @@ Placed i (s ∷ ss) = (i ≡ s.place) ⊎ Placed i ss
 
 abbrev Later : ℤ → List Played → Type 0
 Later p [] = Unit {0}
-Later p (s ∷ ss) = All (λ z. (s.time +ℤ p) ≤ℤ z.time) ss × Later p ss
+Later p (s ∷ ss) = AllByRecursion (λ z. (s.time +ℤ p) ≤ℤ z.time) ss × Later p ss
 
-time_all : (Q : ℕ → ℤ → Type 0) (i : ℕ) (ss : List Played) → All (λ s. Q s.place s.time) ss → Placed i ss → Q i (time_of i ss)
+time_all : (Q : ℕ → ℤ → Type 0) (i : ℕ) (ss : List Played) → AllByRecursion (λ s. Q s.place s.time) ss → Placed i ss → Q i (time_of i ss)
 unfolding time_of
 time_all Q i [] a k = absurd k
 time_all Q i (s ∷ ss) a k =
@@ -235,7 +235,7 @@ time_apart p i j (s ∷ ss) a k l n =
     (λ d. time_apart p i j ss a.1 (other i e k) (other j d l) n))
 
 -- every group gets a start
-placed : (p : ℤ) (f : List Span) (n : ℕ) (t : ℤ) (gs : List Group) → count (λ w. true) (wins gs) ≤ n → All (λ x. Placed x.place (play p f n t gs)) gs
+placed : (p : ℤ) (f : List Span) (n : ℕ) (t : ℤ) (gs : List Group) → count (λ w. true) (wins gs) ≤ n → AllByRecursion (λ x. Placed x.place (play p f n t gs)) gs
 unfolding play
 placed p f zero t [] h = tt
 placed p f zero t (g ∷ gs) h = absurd (omega arith)
@@ -268,7 +268,7 @@ start_by_place T i [] k h = absurd (omega arith)
 start_by_place T i (w ∷ ws) zero h = ap T (omega arith)
 start_by_place T i (w ∷ ws) (suc k) h = start_by_place T (suc i) ws k (omega arith) ∙ ap T (omega arith)
 
-all_by_place : (P : ℕ → Type 0) (i : ℕ) (ws : List Window) → All (λ g. P g.place) (by_place i ws) → (k : ℕ) → k < length ws → P (i + k)
+all_by_place : (P : ℕ → Type 0) (i : ℕ) (ws : List Window) → AllByRecursion (λ g. P g.place) (by_place i ws) → (k : ℕ) → k < length ws → P (i + k)
 unfolding by_place
 all_by_place P i [] a k h = absurd (omega arith)
 all_by_place P i (w ∷ ws) a zero h = let e : i ≡ i + 0 = omega arith in subst P e a.0
@@ -282,7 +282,7 @@ count_all (g ∷ gs) = ap suc (count_all gs)
 abbrev Of : List Window → Group → Type 0
 Of ws g = (g.place < length ws) × (window_at ws g.place ≡ g.win)
 
-of_by_place : (ws : List Window) (i : ℕ) (us : List Window) → i + length us ≡ length ws → ((k : ℕ) → k < length us → window_at ws (i + k) ≡ window_at us k) → All (Of ws) (by_place i us)
+of_by_place : (ws : List Window) (i : ℕ) (us : List Window) → i + length us ≡ length ws → ((k : ℕ) → k < length us → window_at ws (i + k) ≡ window_at us k) → AllByRecursion (Of ws) (by_place i us)
 unfolding by_place
 of_by_place ws i [] e h = tt
 of_by_place ws i (u ∷ us) e h =
@@ -296,17 +296,17 @@ of_by_place ws i (u ∷ us) e h =
 module _ (p : ℤ) (pace : pos 1 ≤ℤ p) (ws : List Window) (f : List Span) (ok : forbidden p ws ≡ Some f) where
   -- the groups left are of the field
   abbrev Sub : List Group → Type 0
-  Sub gs = All (Of ws) gs × ((c : Window → Bool) → count c (wins gs) ≤ count c ws)
+  Sub gs = AllByRecursion (Of ws) gs × ((c : Window → Bool) → count c (wins gs) ≤ count c ws)
 
   -- THE INVARIANT: for each late, those left with at most that late still fit from t on
   abbrev Inv : ℤ → List Group → Type 0
-  Inv t gs = All (λ u. Fits p f t (count (by u.late) (wins gs)) u.late) ws
+  Inv t gs = AllByRecursion (λ u. Fits p f t (count (by u.late) (wins gs)) u.late) ws
 
   sub_without : (i : ℕ) (gs : List Group) → Sub gs → Sub (without i gs)
   sub_without i gs s = (all_without (Of ws) i gs s.0, (λ c. let a = without_le c i gs in let b = s.1 c in omega (arith, a, b)))
 
   -- where all those left with late ≤ l have early ≥ a, they are among the windows from a on
-  late_counted : (a l : ℤ) (gs : List Group) → Sub gs → All (λ x. x.win.late ≤ℤ l → a ≤ℤ x.win.early) gs → count (by l) (wins gs) ≤ counted ws a l
+  late_counted : (a l : ℤ) (gs : List Group) → Sub gs → AllByRecursion (λ x. x.win.late ≤ℤ l → a ≤ℤ x.win.early) gs → count (by l) (wins gs) ≤ counted ws a l
   late_counted a l gs s h =
       let k = s.1 (enclosed a l) in
       let j =
@@ -328,7 +328,7 @@ module _ (p : ℤ) (pace : pos 1 ≤ℤ p) (ws : List Window) (f : List Span) (o
       h)) in
       omega (arith, k, j)
 
-  inv_jump : (e : ℤ) (gs : List Group) → Sub gs → All (λ x. e ≤ℤ x.win.early) gs → Inv e gs
+  inv_jump : (e : ℤ) (gs : List Group) → Sub gs → AllByRecursion (λ x. e ≤ℤ x.win.early) gs → Inv e gs
   inv_jump e gs s h =
       All-weaker
       (λ u. Fits p f e (counted ws e u.late) u.late)
@@ -351,7 +351,7 @@ module _ (p : ℤ) (pace : pos 1 ≤ℤ p) (ws : List Window) (f : List Span) (o
   inv_max t g gs s i =
       cond_both (lt_z (least_early g gs) t) t (least_early g gs) (λ z. Inv z (g ∷ gs)) (λ e. i) (λ e. inv_jump (least_early g gs) (g ∷ gs) s (least_early_le g gs))
 
-  inv_step : (t : ℤ) (h : Group) (gs : List Group) → Sub gs → Inv t gs → Among h gs → All (Best (least_outside f t) h) gs → Inv (least_outside f t +ℤ p) (without h.place gs)
+  inv_step : (t : ℤ) (h : Group) (gs : List Group) → Sub gs → Inv t gs → Among h gs → AllByRecursion (Best (least_outside f t) h) gs → Inv (least_outside f t +ℤ p) (without h.place gs)
   inv_step t h gs s i m best =
       let u = least_outside f t in
       let rest = without h.place gs in
@@ -409,7 +409,7 @@ module _ (p : ℤ) (pace : pos 1 ≤ℤ p) (ws : List Window) (f : List Span) (o
       (fits_less p pace f h.win.late 1 (count (by h.win.late) (wins gs)) t (omega (arith, less)) here).0
 
   abbrev Ok : ℤ → List Played → Type 0
-  Ok t ss = All (λ s. (t ≤ℤ s.time) × In (window_at ws s.place) s.time) ss × Later p ss
+  Ok t ss = AllByRecursion (λ s. (t ≤ℤ s.time) × In (window_at ws s.place) s.time) ss × Later p ss
 
   run : (n : ℕ) (t : ℤ) (gs : List Group) → Sub gs → Inv t gs → Ok t (play p f n t gs)
   unfolding play
@@ -454,7 +454,7 @@ module _ (p : ℤ) (pace : pos 1 ≤ℤ p) (ws : List Window) (f : List Span) (o
   -- ---- the order
 
   abbrev Whole : List Group → List Played → Type 0
-  Whole gs ss = All (λ s. In (window_at ws s.place) s.time) ss × Later p ss × All (λ x. Placed x.place ss) gs
+  Whole gs ss = AllByRecursion (λ s. In (window_at ws s.place) s.time) ss × Later p ss × AllByRecursion (λ x. Placed x.place ss) gs
 
   whole : (gs : List Group) → Sub gs → Whole gs (play_all p f gs)
   unfolding play_all

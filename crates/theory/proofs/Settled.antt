@@ -2,7 +2,7 @@
 use Rattle.std.proofs.Common.{◌≡◌, ℕ, zero, suc, ◌<◌, ◌≤◌, Bool, true, false, cond, eqb, ◌⊎◌, List, [], ◌∷◌, ℤ, pos, ◌+ℤ◌, ◌-ℤ◌, ◌≤ℤ◌, ◌<ℤ◌, Some, None, fold, Option, refl, subst, inl, inr, ⊎_elim, arith}
 use lib.Signed.{le_z, lt_z}
 use Rattle.std.specs.Int.{int_min}
-use Rattle.std.specs.List.{AllByRecursion as All}
+use Rattle.std.specs.List.{AllByRecursion}
 use Rattle.std.proofs.lemmas.Int.{ints, by_lt_z}
 use Rattle.std.proofs.ByRecursion.{folded_min_z_bounds, All-weaker}
 use Rattle.std.proofs.lemmas.Bool.{cond_both, eqb-true, and_parts, and_from}
@@ -17,9 +17,9 @@ use Rattle.theory.proofs.Closed.{leZ_true, ltZ_true, ltZ_false, Fits, fits_back,
 
 abbrev pub Falling : List ℤ → Type 0
 Falling [] = Unit {0}
-Falling (x ∷ xs) = All (λ y. y <ℤ x) xs × Falling xs
+Falling (x ∷ xs) = AllByRecursion (λ y. y <ℤ x) xs × Falling xs
 
-all_put : (P : ℤ → Type 0) (r : ℤ) (xs : List ℤ) → P r → All P xs → All P (put r xs)
+all_put : (P : ℤ → Type 0) (r : ℤ) (xs : List ℤ) → P r → AllByRecursion P xs → AllByRecursion P (put r xs)
 unfolding put
 all_put P r [] h a = (h, tt)
 all_put P r (x ∷ xs) h a =
@@ -27,9 +27,9 @@ all_put P r (x ∷ xs) h a =
     (lt_z x r)
     (r ∷ x ∷ xs)
     (cond (lt_z r x) (x ∷ put r xs) (x ∷ xs))
-    (All P)
+    (AllByRecursion P)
     (λ e. (h, a))
-    (λ e. cond_both (lt_z r x) (x ∷ put r xs) (x ∷ xs) (All P) (λ d. (a.0, all_put P r xs h a.1)) (λ d. a))
+    (λ e. cond_both (lt_z r x) (x ∷ put r xs) (x ∷ xs) (AllByRecursion P) (λ d. (a.0, all_put P r xs h a.1)) (λ d. a))
 
 falling_put : (r : ℤ) (xs : List ℤ) → Falling xs → Falling (put r xs)
 unfolding put
@@ -57,12 +57,12 @@ unfolding earlies
 falling_earlies [] = tt
 falling_earlies (w ∷ ws) = falling_put w.early (earlies ws) (falling_earlies ws)
 
-has_put : (P : ℤ → Type 0) (r : ℤ) (xs : List ℤ) → All P (put r xs) → P r × All P xs
+has_put : (P : ℤ → Type 0) (r : ℤ) (xs : List ℤ) → AllByRecursion P (put r xs) → P r × AllByRecursion P xs
 unfolding put
 has_put P r [] a = (a.0, tt)
 has_put P r (x ∷ xs) a = go (has_put P r xs) (lt_z x r) (lt_z r x) refl refl a
   where
-    go : (All P (put r xs) → P r × All P xs) → (b c : Bool) → lt_z x r ≡ b → lt_z r x ≡ c → All P (cond b (r ∷ x ∷ xs) (cond c (x ∷ put r xs) (x ∷ xs))) → P r × All P (x ∷ xs)
+    go : (AllByRecursion P (put r xs) → P r × AllByRecursion P xs) → (b c : Bool) → lt_z x r ≡ b → lt_z r x ≡ c → AllByRecursion P (cond b (r ∷ x ∷ xs) (cond c (x ∷ put r xs) (x ∷ xs))) → P r × AllByRecursion P (x ∷ xs)
     go ih true c d e a = (a.0, a.1)
     go ih false true d e a = let k = ih a.1 in (k.0, (a.0, k.1))
     go ih false false d e a =
@@ -71,14 +71,14 @@ has_put P r (x ∷ xs) a = go (has_put P r xs) (lt_z x r) (lt_z r x) refl refl a
         let q : x ≡ r = omega (arith, ints) in
         (subst P q a.0, a)
 
-pub has_earlies : (P : ℤ → Type 0) (ws : List Window) → All P (earlies ws) → All (λ u. P u.early) ws
+pub has_earlies : (P : ℤ → Type 0) (ws : List Window) → AllByRecursion P (earlies ws) → AllByRecursion (λ u. P u.early) ws
 unfolding earlies
 has_earlies P [] a = tt
 has_earlies P (w ∷ ws) a = let k = has_put P w.early (earlies ws) a in (k.0, has_earlies P ws k.1)
 
 -- ---- counts
 
-pub count_le : (f g : Window → Bool) (ws : List Window) → All (λ u. f u ≡ true → g u ≡ true) ws → count f ws ≤ count g ws
+pub count_le : (f g : Window → Bool) (ws : List Window) → AllByRecursion (λ u. f u ≡ true → g u ≡ true) ws → count f ws ≤ count g ws
 count_le f g [] a = omega arith
 count_le f g (w ∷ ws) a = go (f w) (g w) a.0 (count_le f g ws a.1)
   where
@@ -88,7 +88,7 @@ count_le f g (w ∷ ws) a = go (f w) (g w) a.0 (count_le f g ws a.1)
     go false true h k = omega arith
     go false false h k = k
 
-pub count_none : (f : Window → Bool) (ws : List Window) → All (λ u. f u ≡ true → ⊥) ws → count f ws ≤ 0
+pub count_none : (f : Window → Bool) (ws : List Window) → AllByRecursion (λ u. f u ≡ true → ⊥) ws → count f ws ≤ 0
 count_none f [] a = omega arith
 count_none f (w ∷ ws) a = go (f w) a.0 (count_none f ws a.1)
   where
@@ -97,7 +97,7 @@ count_none f (w ∷ ws) a = go (f w) a.0 (count_none f ws a.1)
     go false h k = k
 
 -- of the earlies from a on, the least, or there is none
-pub least_from : (P : ℤ → Type 0) (a : ℤ) (ws : List Window) → All (λ u. P u.early) ws → All (λ u. u.early <ℤ a) ws ⊎ ((r : ℤ) × (a ≤ℤ r) × P r × All (λ u. (u.early <ℤ a) ⊎ (r ≤ℤ u.early)) ws)
+pub least_from : (P : ℤ → Type 0) (a : ℤ) (ws : List Window) → AllByRecursion (λ u. P u.early) ws → AllByRecursion (λ u. u.early <ℤ a) ws ⊎ ((r : ℤ) × (a ≤ℤ r) × P r × AllByRecursion (λ u. (u.early <ℤ a) ⊎ (r ≤ℤ u.early)) ws)
 least_from P a [] h = inl tt
 least_from P a (w ∷ ws) h =
     ⊎_elim
@@ -126,7 +126,7 @@ least_from P a (w ∷ ws) h =
 module _ (p : ℤ) (pace : pos 1 ≤ℤ p) (ws : List Window) where
   -- there is room at x for the windows from r on
   abbrev pub Room : List Span → ℤ → ℤ → Type 0
-  Room f r x = All (λ u. Fits p f x (counted ws r u.late) u.late) ws
+  Room f r x = AllByRecursion (λ u. Fits p f x (counted ws r u.late) u.late) ws
 
   -- there is room from r up to some m, and whatever starts before r outside the spans ends by m
   abbrev pub Settled : List Span → ℤ → Type 0
@@ -150,7 +150,7 @@ module _ (p : ℤ) (pace : pos 1 ≤ℤ p) (ws : List Window) where
   fit_at f l m a zero h k = tt
   fit_at f l m a (suc n) h k = let j = h (omega arith) in fits_back p pace f l (suc n) a (omega (arith, ints))
 
-  room_backwards : (r m : ℤ) (f : List Span) (us : List Window) → All (λ b. m ≤ℤ b) (backwards p ws r f us) → (a : ℤ) → a ≤ℤ m → All (λ u. Fits p f a (counted ws r u.late) u.late) us
+  room_backwards : (r m : ℤ) (f : List Span) (us : List Window) → AllByRecursion (λ b. m ≤ℤ b) (backwards p ws r f us) → (a : ℤ) → a ≤ℤ m → AllByRecursion (λ u. Fits p f a (counted ws r u.late) u.late) us
   unfolding backwards
   room_backwards r m f [] h a k = tt
   room_backwards r m f (u ∷ us) h a k = go (λ g. room_backwards r m f us g a k) (eqb (counted ws r u.late) 0) refl h
@@ -161,7 +161,7 @@ module _ (p : ℤ) (pace : pos 1 ≤ℤ p) (ws : List Window) where
       b : ℤ
       b = backward p f u.late (counted ws r u.late)
 
-      go : (All (λ b. m ≤ℤ b) more → All (λ u. Fits p f a (counted ws r u.late) u.late) us) → (t : Bool) → eqb (counted ws r u.late) 0 ≡ t → All (λ b. m ≤ℤ b) (cond t more (b ∷ more)) → All (λ u. Fits p f a (counted ws r u.late) u.late) (u ∷ us)
+      go : (AllByRecursion (λ b. m ≤ℤ b) more → AllByRecursion (λ u. Fits p f a (counted ws r u.late) u.late) us) → (t : Bool) → eqb (counted ws r u.late) 0 ≡ t → AllByRecursion (λ b. m ≤ℤ b) (cond t more (b ∷ more)) → AllByRecursion (λ u. Fits p f a (counted ws r u.late) u.late) (u ∷ us)
       go ih true e g = (fit_at f u.late m a (counted ws r u.late) (λ z. absurd (omega (arith, eqb-true (counted ws r u.late) 0 e))) k, ih g)
       go ih false e g = (fit_at f u.late m a (counted ws r u.late) (λ z. g.0) k, ih g.1)
 
@@ -205,7 +205,7 @@ module _ (p : ℤ) (pace : pos 1 ≤ℤ p) (ws : List Window) where
       )))
       (λ d. let h = ltZ_false m (r +ℤ p) d in ((m, low, (λ a k l. room a l), (λ t o k. omega (arith, ints))), kept)))
 
-  next_join : (r : ℤ) (f : List Span) (bs : List ℤ) → ((m : ℤ) → All (λ b. m ≤ℤ b) bs → (a : ℤ) → a ≤ℤ m → Room f r a) → Maybe (Next f r) (join p r bs f)
+  next_join : (r : ℤ) (f : List Span) (bs : List ℤ) → ((m : ℤ) → AllByRecursion (λ b. m ≤ℤ b) bs → (a : ℤ) → a ≤ℤ m → Room f r a) → Maybe (Next f r) (join p r bs f)
   unfolding join
   next_join r f [] room = ((r +ℤ p, omega (arith, ints), (λ a k l. room (r +ℤ p) tt a l), (λ t o k. omega (arith, ints))), (λ q k z. z))
   next_join r f (b ∷ bs) room =
@@ -214,9 +214,9 @@ module _ (p : ℤ) (pace : pos 1 ≤ℤ p) (ws : List Window) where
   -- ---- all steps
 
   abbrev Done : List ℤ → List Span → List Span → Type 0
-  Done rs f g = All (Settled g) rs × ((q : ℤ) → All (λ r. r ≤ℤ q) rs → Settled f q → Settled g q)
+  Done rs f g = AllByRecursion (Settled g) rs × ((q : ℤ) → AllByRecursion (λ r. r ≤ℤ q) rs → Settled f q → Settled g q)
 
-  done_then : (r : ℤ) (rs : List ℤ) (f : List Span) → All (λ y. y <ℤ r) rs → (s : Option (List Span)) (go : List Span → Option (List Span)) → Maybe (Next f r) s → ((h : List Span) → Maybe (Done rs h) (go h)) → Maybe (Done (r ∷ rs) f) (then s go)
+  done_then : (r : ℤ) (rs : List ℤ) (f : List Span) → AllByRecursion (λ y. y <ℤ r) rs → (s : Option (List Span)) (go : List Span → Option (List Span)) → Maybe (Next f r) s → ((h : List Span) → Maybe (Done rs h) (go h)) → Maybe (Done (r ∷ rs) f) (then s go)
   done_then r rs f lower None go n k = tt
   done_then r rs f lower (Some h) go n k = last (go h) (k h)
     where
@@ -241,7 +241,7 @@ module _ (p : ℤ) (pace : pos 1 ≤ℤ p) (ws : List Window) where
       (next_join r f (backwards p ws r f ws) (λ m b a k. room_backwards r m f ws b a k))
       (λ g. done_steps rs g h.1)
 
-  pub settled : (f : List Span) → forbidden p ws ≡ Some f → All (λ u. Settled f u.early) ws
+  pub settled : (f : List Span) → forbidden p ws ≡ Some f → AllByRecursion (λ u. Settled f u.early) ws
   unfolding forbidden
   settled f e =
       let d : Done (earlies ws) [] f = subst (Maybe (Done (earlies ws) [])) e (done_steps (earlies ws) [] (falling_earlies ws)) in
@@ -269,7 +269,7 @@ module _ (p : ℤ) (pace : pos 1 ≤ℤ p) (ws : List Window) where
       (leZ_true a u.early k.0, k.1)
 
   -- the windows from a on are those from r on, where no early lies between
-  counted_le : (a r l : ℤ) → All (λ u. (u.early <ℤ a) ⊎ (r ≤ℤ u.early)) ws → counted ws a l ≤ counted ws r l
+  counted_le : (a r l : ℤ) → AllByRecursion (λ u. (u.early <ℤ a) ⊎ (r ≤ℤ u.early)) ws → counted ws a l ≤ counted ws r l
   counted_le a r l h =
       count_le
       (enclosed a l)
@@ -286,7 +286,7 @@ module _ (p : ℤ) (pace : pos 1 ≤ℤ p) (ws : List Window) where
       h)
 
   -- x is a time up to which there is room for the windows from the next early after a
-  room_from : (f : List Span) (a x : ℤ) → All (λ u. Settled f u.early) ws → ((r : ℤ) → a ≤ℤ r → (q : Settled f r) → x ≤ℤ q.0) → Room f a x
+  room_from : (f : List Span) (a x : ℤ) → AllByRecursion (λ u. Settled f u.early) ws → ((r : ℤ) → a ≤ℤ r → (q : Settled f r) → x ≤ℤ q.0) → Room f a x
   room_from f a x h k =
       ⊎_elim
       (λ none. all_each (λ u. fits_less p pace f u.late (counted ws a u.late) 0 x (count_none (enclosed a u.late) ws (none_enclosed u.late none)) tt) ws)
@@ -299,10 +299,10 @@ module _ (p : ℤ) (pace : pos 1 ≤ℤ p) (ws : List Window) where
       (settled_room f s.0 s.2 x (k s.0 s.1 s.2)))
       (least_from (Settled f) a ws h)
     where
-      none_enclosed : (l : ℤ) → All (λ u. u.early <ℤ a) ws → All (λ u. enclosed a l u ≡ true → ⊥) ws
+      none_enclosed : (l : ℤ) → AllByRecursion (λ u. u.early <ℤ a) ws → AllByRecursion (λ u. enclosed a l u ≡ true → ⊥) ws
       none_enclosed l n = All-weaker (λ u. u.early <ℤ a) (λ u. enclosed a l u ≡ true → ⊥) (λ u z e. let k = enclosed_early a l u e in omega (arith, ints)) ws n
 
-      all_each : {P : Window → Type 0} → ((u : Window) → P u) → (us : List Window) → All P us
+      all_each : {P : Window → Type 0} → ((u : Window) → P u) → (us : List Window) → AllByRecursion P us
       all_each g [] = tt
       all_each g (u ∷ us) = (g u, all_each g us)
 

@@ -1,6 +1,6 @@
 -- A closed set of times, as a list of spans in any order, and starts that keep outside it.
 use Rattle.std.specs.Prelude.{ℕ, zero, suc, Bool, cond, ◌&&◌, ◌⊎◌, List, [], ◌∷◌, ℤ, pos, ◌+ℤ◌, ◌-ℤ◌, ◌<ℤ◌, int_le}
-use Rattle.std.specs.List.{AllByRecursion as All}
+use Rattle.std.specs.List.{AllByRecursion}
 -- the times first..last, both included
 use Rattle.theory.specs.declared.span.Span.{Span}
 
@@ -12,7 +12,7 @@ Off t s = (t <ℤ s.first) ⊎ (s.last <ℤ t)
 
 -- t is in none of the spans
 abbrev pub Outside : List Span → ℤ → Type 0
-Outside f t = All (Off t) f
+Outside f t = AllByRecursion (Off t) f
 
 -- the greatest time at or before t outside the spans: u is it for the later spans, and where the first
 -- span covers u, it is theirs from just before that span

@@ -1,7 +1,7 @@
 use Rattle.std.proofs.Common.{◌≡◌, ◌-◌, ◌≤◌, List, ◌++◌, map, reverse, length, take, drop, pos, IfOk, Err, sym, ap, ◌∙◌, subst, arith, w64, to_z, of_z, rules}
 use Rattle.std.proofs.lemmas.Int.{ints}
 use Rattle.std.proofs.lemmas.List.{length-map}
-use Rattle.std.specs.List.{AllByRecursion as All}
+use Rattle.std.specs.List.{AllByRecursion}
 use Rattle.theory.specs.declared.span.Span.{Span}
 use Rattle.theory.specs.Method.{forbidden}
 use Rattle.reckoning.specs.declared.start.Start.{Start}
@@ -21,7 +21,7 @@ reckon-requires g c =
     let p : to_z w64 (of_z w64 c.from.result) ≡ pos c.args.pace = search (rules, ints) in
     record {
       few = subst (λ z. length z ≤ 64) q k.1;
-      timed = subst (All Timed) q k.2;
+      timed = subst (AllByRecursion Timed) q k.2;
       pace = subst Pace (sym p) k.0;
     }
 
@@ -37,10 +37,10 @@ play-count-requires g c =
     record {
       few = subst (λ z. length z ≤ 64) q k.1;
       room = subst (λ z. length z ≤ 64) q k.1;
-      timed = subst (All Timed) q k.2;
+      timed = subst (AllByRecursion Timed) q k.2;
       pace = subst Pace (sym p) k.0;
       falling = subst (λ z. Falling (reverse z)) d s.0;
-      fit = subst (All Fit) d s.1;
+      fit = subst (AllByRecursion Fit) d s.1;
     }
 
 pub returns-in_err-windows : goal.returns-in_err-windows

@@ -1,6 +1,6 @@
 use Rattle.std.proofs.Common.{◌≡◌, ℕ, ◌<◌, ◌≤◌, Bool, true, false, List, length, pos, is_some, Some, None, Ok, Err, Result, sym, refl, ap, ◌∙◌, subst, arith, w64, to_z, of_z, rules}
 use Rattle.std.proofs.lemmas.Int.{ints}
-use Rattle.std.specs.List.{AllByRecursion as All}
+use Rattle.std.specs.List.{AllByRecursion}
 use Rattle.field.specs.declared.refusal.Refusal.{Refusal}
 use Rattle.field.specs.declared.refusal.Refusal.TheVariants.{NoOrder}
 use Rattle.field.specs.declared.window.Window.{Window}
@@ -59,7 +59,7 @@ reckon-requires g c =
     let p : to_z w64 (of_z w64 c.from.result) ≡ pos c.args.pace = search (rules, ints) in
     record {
       few = subst (λ z. length z ≤ 64) q k.1;
-      timed = subst (All Timed) q k.2;
+      timed = subst (AllByRecursion Timed) q k.2;
       pace = subst Pace (sym p) k.0;
     }
 

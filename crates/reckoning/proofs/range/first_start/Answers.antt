@@ -1,6 +1,6 @@
 use Rattle.std.proofs.Common.{◌≡◌, ◌<◌, ◌≤◌, true, length, pos, is_some, Err, sym, ap, ◌∙◌, subst, w64, to_z, of_z, rules}
 use Rattle.std.proofs.lemmas.Int.{ints}
-use Rattle.std.specs.List.{AllByRecursion as All}
+use Rattle.std.specs.List.{AllByRecursion}
 use Rattle.theory.specs.Method.{forbidden}
 use Rattle.theory.specs.Theorem.{First}
 use Rattle.reckoning.specs.Range.{FirstTold}
@@ -21,7 +21,7 @@ reckon-requires g c =
     let p : to_z w64 (of_z w64 c.from.result) ≡ pos c.args.pace = search (rules, ints) in
     record {
       few = subst (λ z. length z ≤ 64) q k.1;
-      timed = subst (All Timed) q k.2;
+      timed = subst (AllByRecursion Timed) q k.2;
       pace = subst Pace (sym p) k.0;
     }
 
@@ -41,7 +41,7 @@ bisect-requires g c =
     let l = subst (λ z. c.args.place < length z) c.all.ensures c.if-place-all.false in
     record {
       inside = within c.in_ok-windows.windows.list c.in_ok-windows.windows.len c.args.place l;
-      timed = subst (All Timed) q k.2;
+      timed = subst (AllByRecursion Timed) q k.2;
       upright = upright_at P us c.args.place pace.0 l s;
       pace = pace;
       possible = s;

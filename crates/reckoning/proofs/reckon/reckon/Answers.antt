@@ -1,6 +1,6 @@
 use Rattle.std.proofs.Common.{◌≡◌, reverse, pos, ◌+ℤ◌, Some, None, fold, sym, ap, ◌∙◌, subst, w64, to_z, of_z, rules}
 use Rattle.std.specs.Int.{int_min}
-use Rattle.std.specs.List.{AllByRecursion as All}
+use Rattle.std.specs.List.{AllByRecursion}
 use Rattle.theory.specs.Method.{forbidden}
 use Rattle.theory.proofs.Closed.{ltZ_true, ltZ_false}
 use Rattle.reckoning.proofs.Plain.{real}
@@ -37,7 +37,7 @@ come_in-requires c =
       timed = c.requires.timed;
       pace = pace;
       falling = subst (λ f. Falling (reverse f)) q al.falling;
-      fit = subst (All Fit) q (all_found xs al.fit);
+      fit = subst (AllByRecursion Fit) q (all_found xs al.fit);
       kept = subst (λ f. Kept P ws (reverse f) (to_z w64 (of_z w64 c.in-Some.early) +ℤ pos 1) vs) q (coming P pace ws c.requires.timed _ _ (reverse xs) vs al n);
     }
 

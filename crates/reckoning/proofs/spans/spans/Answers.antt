@@ -1,7 +1,7 @@
 use Rattle.std.proofs.Common.{◌≡◌, ◌≤◌, ◌++◌, reverse, length, take, drop, pos, IfOk, Err, sym, ap, ◌∙◌, subst, w64, to_z, of_z, rules}
 use Rattle.std.proofs.lemmas.Int.{ints}
 use Rattle.std.proofs.lemmas.List.{reverse-reverse}
-use Rattle.std.specs.List.{AllByRecursion as All}
+use Rattle.std.specs.List.{AllByRecursion}
 use Rattle.reckoning.specs.Spans.{Unused}
 use Rattle.theory.specs.Method.{forbidden}
 use Rattle.reckoning.specs.Values.{Timed, Pace}
@@ -19,7 +19,7 @@ reckon-requires g c =
     let p : to_z w64 (of_z w64 c.from.result) ≡ pos c.args.pace = search (rules, ints) in
     record {
       few = subst (λ z. length z ≤ 64) q k.1;
-      timed = subst (All Timed) q k.2;
+      timed = subst (AllByRecursion Timed) q k.2;
       pace = subst Pace (sym p) k.0;
     }
 

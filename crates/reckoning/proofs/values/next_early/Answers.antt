@@ -1,6 +1,6 @@
 use Rattle.std.proofs.Common.{List, negsuc, ◌<ℤ◌, sym, ap, ◌∙◌, subst, arith, w64, to_z, of_z}
 use Rattle.field.specs.declared.window.Window.{Window}
-use Rattle.std.specs.List.{AllByRecursion as All}
+use Rattle.std.specs.List.{AllByRecursion}
 use Rattle.theory.proofs.Closed.{ltZ_true, ltZ_false}
 use Rattle.reckoning.proofs.Plain.{real}
 use Rattle.std.proofs.lemmas.Int.{ints, to_z-of_z}
@@ -9,7 +9,7 @@ use Rattle.reckoning.specs.Values.{Timed, Next, rest, head_or}
 use Rattle.reckoning.proofs.Rest.{none_left, next_left}
 use Rattle.reckoning.proofs.values.next_early.Goals as goal
 
-after_floor : (ws : List Window) → All Timed ws → All (λ w. negsuc 86400 <ℤ w.early) ws
+after_floor : (ws : List Window) → AllByRecursion Timed ws → AllByRecursion (λ w. negsuc 86400 <ℤ w.early) ws
 after_floor ws a = All-weaker Timed (λ w. negsuc 86400 <ℤ w.early) (λ w t. omega (arith, ints, t.0)) ws a
 
 pub returns-then-top-ltminus86400 : goal.returns-then-top-ltminus86400
