@@ -12,7 +12,7 @@ use Rattle.field.specs.Refusals.{number_of, by_number, question, first_no}
 use Rattle.theory.specs.declared.span.Span.{Span}
 use Rattle.theory.specs.Method.{forbidden}
 use Rattle.theory.proofs.Deciding.{possible_some, some_possible}
-use Rattle.reckoning.specs.Questions.{every, questions, refused, asked}
+use Rattle.reckoning.specs.Questions.{questions, refused, asked}
 use Rattle.reckoning.specs.Lists.{decided, mapped, told, answer, leaves, Thirteen}
 use Rattle.reckoning.specs.Values.{Timed, Pace}
 use Rattle.reckoning.proofs.Every.{timed_all}

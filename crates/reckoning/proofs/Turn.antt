@@ -11,7 +11,7 @@ use Rattle.field.specs.declared.window.Window.{Window}
 use Rattle.theory.specs.declared.span.Span.{Span}
 use Rattle.theory.specs.Orders.{counted, enclosed, window_at}
 use Rattle.theory.specs.Closed.{backward}
-use Rattle.theory.specs.Method.{backwards, then, steps, earlies, forbidden}
+use Rattle.theory.specs.Method.{backwards, then, steps, forbidden}
 use Rattle.theory.proofs.Settled.{count_none}
 use Rattle.theory.proofs.Closed.{leZ_true}
 use Rattle.reckoning.specs.Values.{Falling, Fit, Timed, rest, Kept, lows, Next, Pace, Near}

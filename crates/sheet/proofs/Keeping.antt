@@ -27,8 +27,14 @@ pub kept_by_sheet : (s : Sheet) → Kept (content s)
 kept_by_sheet s = record { sorted = s.sorted; kept = s.kept; steady = s.steady; possible = s.possible }
 
 -- as a sheet that holds other rows and another pace owes it
-pub owed : (c : Content) → Kept c → (rs : List Row) (p : ℕ) → rs ≡ c.rows → p ≡ c.pace → (rising (numbers_of rs) ≡ true) × ((list_all sound rs ≡ true) × ((paced p ≡ true) × ((playable rs p ≡ true) × Unit {0})))
-owed c k rs p e f = (ap (λ (us : List Row). rising (numbers_of us)) e ∙ k.sorted, (ap (list_all sound) e ∙ k.kept, (ap paced f ∙ k.steady, ((λ i. playable (e i) (f i)) ∙ k.possible, tt))))
+pub owed : (c : Content) → Kept c → (rs : List Row) (p : ℕ) → rs ≡ c.rows → p ≡ c.pace → Kept (record { rows = rs; pace = p })
+owed c k rs p e f =
+    record {
+      sorted = ap (λ (us : List Row). rising (numbers_of us)) e ∙ k.sorted;
+      kept = ap (list_all sound) e ∙ k.kept;
+      steady = ap paced f ∙ k.steady;
+      possible = (λ i. playable (e i) (f i)) ∙ k.possible;
+    }
 
 pub none_kept : (p : ℕ) → paced p ≡ true → Kept (record { rows = []; pace = p })
 none_kept p h = record { sorted = refl; kept = refl; steady = h; possible = none_play p }

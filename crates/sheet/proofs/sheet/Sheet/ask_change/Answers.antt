@@ -15,7 +15,6 @@ use Rattle.field.proofs.InARow.{all_yes}
 use Rattle.sheet.proofs.Stepping.{sound_row, changed_sound}
 use Rattle.sheet.proofs.Stopping.{last_no, last_yes, of_both, passed, stops, yes_then}
 use Rattle.sheet.proofs.sheet.Sheet.ask_change.Goals as goal
-use Rattle.sheet.proofs.sheet.Sheet.ask_change.Goals.{In-ok-place}
 
 abbrev of_window : ℤ → ℤ → List Question
 of_window e l = q_times e l ∷ q_upright e l ∷ []
@@ -36,17 +35,16 @@ record Known (s : Sheet) (g : ℕ) (e l : ℤ) (new : ℕ × Row) : Type 0 where
   none : first_no (before g e l (content s).rows) ≡ None
   same : new ≡ stepped_at g (step.Change e l) (content s).rows
 
-known : (c : In-ok-place) → Known c.args.self.now c.args.number c.args.early c.args.late (c.in_ok-place.place, c.in_ok-place.row)
-known c =
-    let rs = (content c.args.self.now).rows in
-    let g = c.args.number in
-    let e = c.args.early in
-    let l = c.args.late in
-    let x = to_z-of_z w32 e c.ranges.early in
-    let y = to_z-of_z w32 l c.ranges.late in
-    let new : ℕ × Row = (c.in_ok-place.place, c.in_ok-place.row) in
-    let p = passed (first_no (of_group g e l rs)) (stepped_at g (step.Change e l) rs) new (of_both (λ d k. ◌≡◌ {A = Result (ℕ × Row) ℕ} (Ok new) (answered (first_no (of_group g d k rs)) (stepped_at g (step.Change d k) rs))) _ e _ l x y c.in_ok-place.ensures) in
-    let w = all_yes (of_window e l) (window_passed _ e _ l x y c.in_ok-ask_window.ensures) in
+-- of two times as they are passed on
+known :
+    (s : Sheet) (g : ℕ) (d e k l : ℤ) (new : ℕ × Row) → d ≡ e → k ≡ l
+    → ◌≡◌ {A = Result (Unit {0}) ℕ} (Ok tt) (answered (first_no (of_window d k)) tt)
+    → ◌≡◌ {A = Result (ℕ × Row) ℕ} (Ok new) (answered (first_no (of_group g d k (content s).rows)) (stepped_at g (step.Change d k) (content s).rows))
+    → Known s g e l new
+known s g d e k l new x y window group =
+    let rs = (content s).rows in
+    let p = passed (first_no (of_group g e l rs)) (stepped_at g (step.Change e l) rs) new (of_both (λ d k. ◌≡◌ {A = Result (ℕ × Row) ℕ} (Ok new) (answered (first_no (of_group g d k rs)) (stepped_at g (step.Change d k) rs))) d e k l x y group) in
+    let w = all_yes (of_window e l) (window_passed d e k l x y window) in
     record { none = yes_then (q_times e l) (q_upright e l ∷ of_group g e l rs) w.0 (yes_then (q_upright e l) (of_group g e l rs) w.1.0 p.0); same = p.1 }
 
 -- what was tried is the change made
@@ -74,7 +72,8 @@ plays_with-requires c =
     let g = c.args.number in
     let e = c.args.early in
     let l = c.args.late in
-    let k = known (goal.at.plays_with-requires c).In-ok-place in
+    let new : ℕ × Row = (c.in_ok-place.place, c.in_ok-place.row) in
+    let k = known s g _ e _ l new (to_z-of_z w32 e c.ranges.early) (to_z-of_z w32 l c.ranges.late) c.in_ok-ask_window.ensures c.in_ok-place.ensures in
     let v = all_yes (before g e l rs) k.none in
     let times = and_parts (in_time e) (in_time l) v.0 in
     ap (λ (z : ℕ × Row). sound z.1) k.same ∙ changed_sound (row g rs) e l (sound_row g rs v.1.1.0 s.kept) times.0 times.1 v.1.0 v.1.1.1.0
@@ -86,7 +85,8 @@ returns-then-not-plays_with c =
     let g = c.args.number in
     let e = c.args.early in
     let l = c.args.late in
-    let k = known (goal.at.returns-then-not-plays_with c).In-ok-place in
+    let new : ℕ × Row = (c.in_ok-place.place, c.in_ok-place.row) in
+    let k = known s g _ e _ l new (to_z-of_z w32 e c.ranges.early) (to_z-of_z w32 l c.ranges.late) c.in_ok-ask_window.ensures c.in_ok-place.ensures in
     let lacks = sym (tried s g e l _ k) ∙ sym c.if-not-plays_with.ensures in
     last_no (before g e l rs) 13 (playable (step_of g (step.Change e l) rs) s.pace) (stepped_at g (step.Change e l) rs) k.none lacks
 
@@ -97,6 +97,7 @@ returns c =
     let g = c.args.number in
     let e = c.args.early in
     let l = c.args.late in
-    let k = known (goal.at.returns c).In-ok-place in
+    let new : ℕ × Row = (c.in_ok-place.place, c.in_ok-place.row) in
+    let k = known s g _ e _ l new (to_z-of_z w32 e c.ranges.early) (to_z-of_z w32 l c.ranges.late) c.in_ok-ask_window.ensures c.in_ok-place.ensures in
     let has = sym (tried s g e l _ k) ∙ sym c.if-not-plays_with.ensures in
     last_yes (before g e l rs) 13 (playable (step_of g (step.Change e l) rs) s.pace) (stepped_at g (step.Change e l) rs) k.none (c.in_ok-place.place, c.in_ok-place.row) k.same has

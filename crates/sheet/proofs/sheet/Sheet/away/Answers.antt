@@ -39,7 +39,8 @@ invariant_of-self c =
     let k = content s in
     let g = c.args.number in
     let p = passes k (SendAway g) (stepped_at g step.SendAway k.rows) (c.in_ok-place.place, c.in_ok-place.row) c.in_ok-place.ensures in
-    owed (change_made (SendAway g) k) (away_keeps k (kept_by_sheet s) g p.none) _ s.pace (λ j. set k.rows (p.value j).0 (p.value j).1) refl
+    let o = owed (change_made (SendAway g) k) (away_keeps k (kept_by_sheet s) g p.none) _ s.pace (λ j. set k.rows (p.value j).0 (p.value j).1) refl in
+    record { sorted = o.sorted; kept = o.kept; steady = o.steady; possible = o.possible }
 
 pub returns : goal.returns
 returns c =

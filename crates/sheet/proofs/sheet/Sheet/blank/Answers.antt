@@ -6,10 +6,14 @@ use Rattle.sheet.proofs.Beginning.{blank_lawful}
 use Rattle.sheet.proofs.sheet.Sheet.blank.Goals as goal
 
 pub invariant_of-saved : goal.invariant_of-saved
-invariant_of-saved c = owed blank (none_kept 480 refl) _ 480 c.in_ok-spare.ensures refl
+invariant_of-saved c =
+    let o = owed blank (none_kept 480 refl) _ 480 c.in_ok-spare.ensures refl in
+    record { sorted = o.sorted; kept = o.kept; steady = o.steady; possible = o.possible }
 
 pub invariant_of-result : goal.invariant_of-result
-invariant_of-result c = owed blank (none_kept 480 refl) _ 480 c.in_ok-table.ensures refl
+invariant_of-result c =
+    let o = owed blank (none_kept 480 refl) _ 480 c.in_ok-table.ensures refl in
+    record { sorted = o.sorted; kept = o.kept; steady = o.steady; possible = o.possible }
 
 pub returns : goal.returns
 returns c =

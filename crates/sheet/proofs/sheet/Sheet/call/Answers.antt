@@ -4,6 +4,7 @@ use Rattle.field.specs.Refusals.{number_of}
 use Rattle.sheet.specs.declared.row.Row.{Row}
 use Rattle.sheet.specs.declared.row.Step.TheVariants as step
 use Rattle.sheet.specs.Calls.{CallUp, change_made, stepped_at, with_rows}
+use Rattle.sheet.specs.Content.{Content}
 use Rattle.sheet.specs.Questions.{answered, questions, verdict}
 use Rattle.sheet.specs.Sheets.{content}
 use Rattle.field.proofs.InARow.{all_yes}
@@ -13,17 +14,10 @@ use Rattle.sheet.proofs.Stepping.{placed}
 use Rattle.sheet.proofs.Thirteen.{call_13}
 use Rattle.sheet.proofs.Steps.{change_alone}
 use Rattle.sheet.proofs.sheet.Sheet.call.Goals as goal
-use Rattle.sheet.proofs.sheet.Sheet.call.Goals.{In-ok-place}
 
 -- every question is passed, and the row is the group's once it has taken the step
-said : (c : In-ok-place) → Passed (content c.args.self.now) (CallUp c.args.number c.args.time) (c.in_ok-place.place, c.in_ok-place.row) (stepped_at c.args.number (step.CallUp c.args.time) (content c.args.self.now).rows)
-said c =
-    let k = content c.args.self.now in
-    let g = c.args.number in
-    let t = c.args.time in
-    let x = to_z-of_z w32 t c.ranges.time in
-    let yes = subst (λ (u : ℤ). ◌≡◌ {A = Result (ℕ × Row) ℕ} (Ok (c.in_ok-place.place, c.in_ok-place.row)) (answered (verdict k (CallUp g u) 0) (stepped_at g (step.CallUp u) k.rows))) x c.in_ok-place.ensures in
-    passes k (CallUp g t) (stepped_at g (step.CallUp t) k.rows) (c.in_ok-place.place, c.in_ok-place.row) yes
+said : (k : Content) (g : ℕ) (u t : ℤ) (new : ℕ × Row) → u ≡ t → ◌≡◌ {A = Result (ℕ × Row) ℕ} (Ok new) (answered (verdict k (CallUp g u) 0) (stepped_at g (step.CallUp u) k.rows)) → Passed k (CallUp g t) new (stepped_at g (step.CallUp t) k.rows)
+said k g u t new x passed = passes k (CallUp g t) (stepped_at g (step.CallUp t) k.rows) new (subst (λ (z : ℤ). ◌≡◌ {A = Result (ℕ × Row) ℕ} (Ok new) (answered (verdict k (CallUp g z) 0) (stepped_at g (step.CallUp z) k.rows))) x passed)
 
 pub returns-in_err-place : goal.returns-in_err-place
 returns-in_err-place c =
@@ -44,7 +38,7 @@ row_mut-requires c =
     let k = content s in
     let g = c.args.number in
     let t = c.args.time in
-    let p = said (goal.at.row_mut-requires c).In-ok-place in
+    let p = said k g _ t (c.in_ok-place.place, c.in_ok-place.row) (to_z-of_z w32 t c.ranges.time) c.in_ok-place.ensures in
     let y = all_yes (questions k (CallUp g t) 0) p.none in
     let inside = placed g k.rows y.1.0 in
     let at = ap (λ (x : ℕ × Row). x.0) p.value in
@@ -57,8 +51,9 @@ invariant_of-self c =
     let k = content s in
     let g = c.args.number in
     let t = c.args.time in
-    let p = said (goal.at.invariant_of-self c).In-ok-place in
-    owed (change_made (CallUp g t) k) (call_keeps k (kept_by_sheet s) g t p.none) _ s.pace (λ j. set k.rows (p.value j).0 (p.value j).1) refl
+    let p = said k g _ t (c.in_ok-place.place, c.in_ok-place.row) (to_z-of_z w32 t c.ranges.time) c.in_ok-place.ensures in
+    let o = owed (change_made (CallUp g t) k) (call_keeps k (kept_by_sheet s) g t p.none) _ s.pace (λ j. set k.rows (p.value j).0 (p.value j).1) refl in
+    record { sorted = o.sorted; kept = o.kept; steady = o.steady; possible = o.possible }
 
 pub returns : goal.returns
 returns c =
@@ -66,6 +61,6 @@ returns c =
     let k = content s in
     let g = c.args.number in
     let t = c.args.time in
-    let p = said (goal.at.returns c).In-ok-place in
+    let p = said k g _ t (c.in_ok-place.place, c.in_ok-place.row) (to_z-of_z w32 t c.ranges.time) c.in_ok-place.ensures in
     let o = success k (CallUp g t) _ p.none (λ j. with_rows k (set k.rows (p.value j).0 (p.value j).1)) in
     record { answer = o.answer; held = o.held; saved = refl; number = refl; law = (change_alone s _ (CallUp g t) (Ok tt) (λ n. refl) (refl, refl) refl refl o.answer o.held refl refl).law; thirteen = call_13 k s.steady (Ok tt) tt g t o.answer }

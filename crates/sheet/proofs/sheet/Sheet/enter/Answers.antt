@@ -1,11 +1,11 @@
-use Rattle.std.proofs.Common.{◌≡◌, ℕ, ltb, length, Ok, Err, Result, refl, ap, ◌∙◌, arith, w32, rules}
+use Rattle.std.proofs.Common.{◌≡◌, ℕ, ltb, length, ℤ, Ok, Err, Result, refl, ap, ◌∙◌, arith, w32, rules}
 use Rattle.std.proofs.lemmas.Bool.{ltb-true}
 use Rattle.std.specs.List.{insert}
 use Rattle.std.proofs.lemmas.Int.{to_z-of_z}
 use Rattle.field.specs.Refusals.{number_of}
 use Rattle.sheet.specs.declared.row.Row.{Row}
 use Rattle.sheet.specs.Calls.{Enter, change_made, with_rows}
-use Rattle.sheet.specs.Content.{place_for}
+use Rattle.sheet.specs.Content.{Content, place_for}
 use Rattle.sheet.specs.Questions.{answered, questions, verdict}
 use Rattle.sheet.specs.Sheets.{content}
 use Rattle.sheet.specs.Standings.{waiting}
@@ -17,7 +17,6 @@ use Rattle.sheet.proofs.Stopping.{of_both}
 use Rattle.sheet.proofs.Thirteen.{enter_13}
 use Rattle.sheet.proofs.Steps.{change_alone}
 use Rattle.sheet.proofs.sheet.Sheet.enter.Goals as goal
-use Rattle.sheet.proofs.sheet.Sheet.enter.Goals.{In-ok-place}
 
 pub returns-in_err-place : goal.returns-in_err-place
 returns-in_err-place c =
@@ -35,22 +34,16 @@ returns-in_err-place c =
     record { answer = o.answer; held = o.held; saved = refl; number = refl; law = (change_alone s _ (Enter g e l) c.from_residual.result (λ n. refl) (refl, refl) refl refl o.answer o.held refl refl).law; thirteen = enter_13 k s.steady c.from_residual.result tt g e l o.answer }
 
 -- every question is passed, and the place is the new number's
-said : (c : In-ok-place) → Passed (content c.args.self.now) (Enter c.args.number c.args.early c.args.late) c.in_ok-place.place (place_for c.args.number (content c.args.self.now).rows)
-said c =
-    let k = content c.args.self.now in
-    let g = c.args.number in
-    let e = c.args.early in
-    let l = c.args.late in
-    let x = to_z-of_z w32 e c.ranges.early in
-    let y = to_z-of_z w32 l c.ranges.late in
-    let yes = of_both (λ d m. ◌≡◌ {A = Result ℕ ℕ} (Ok c.in_ok-place.place) (answered (verdict k (Enter g d m) 0) (place_for g k.rows))) _ e _ l x y c.in_ok-place.ensures in
-    passes k (Enter g e l) (place_for g k.rows) c.in_ok-place.place yes
+said : (k : Content) (g : ℕ) (d e m l : ℤ) (at : ℕ) → d ≡ e → m ≡ l → ◌≡◌ {A = Result ℕ ℕ} (Ok at) (answered (verdict k (Enter g d m) 0) (place_for g k.rows)) → Passed k (Enter g e l) at (place_for g k.rows)
+said k g d e m l at x y passed = passes k (Enter g e l) (place_for g k.rows) at (of_both (λ d m. ◌≡◌ {A = Result ℕ ℕ} (Ok at) (answered (verdict k (Enter g d m) 0) (place_for g k.rows))) d e m l x y passed)
 
 pub insert-requires : goal.insert-requires
 insert-requires c =
     let s = c.args.self.now in
     let g = c.args.number in
-    let p = said (goal.at.insert-requires c).In-ok-place in
+    let e = c.args.early in
+    let l = c.args.late in
+    let p = said (content s) g _ e _ l c.in_ok-place.place (to_z-of_z w32 e c.ranges.early) (to_z-of_z w32 l c.ranges.late) c.in_ok-place.ensures in
     let y = all_yes (questions (content s) (Enter g c.args.early c.args.late) 0) p.none in
     let inside = first_inside (λ (r : Row). ltb g r.number) (content s).rows in
     let few = ltb-true (length (content s).rows) 64 y.0 in
@@ -65,12 +58,13 @@ invariant_of-self c =
     let g = c.args.number in
     let e = c.args.early in
     let l = c.args.late in
-    let p = said (goal.at.invariant_of-self c).In-ok-place in
     let x = to_z-of_z w32 e c.ranges.early in
     let y = to_z-of_z w32 l c.ranges.late in
+    let p = said k g _ e _ l c.in_ok-place.place x y c.in_ok-place.ensures in
     let new = c.waiting.ensures ∙ (λ j. waiting g (x j) (y j)) in
     let rows = c.insert.ensures ∙ (λ j. insert k.rows (p.value j) (new j)) in
-    owed (change_made (Enter g e l) k) (enter_keeps k (kept_by_sheet s) g e l p.none) _ s.pace rows refl
+    let o = owed (change_made (Enter g e l) k) (enter_keeps k (kept_by_sheet s) g e l p.none) _ s.pace rows refl in
+    record { sorted = o.sorted; kept = o.kept; steady = o.steady; possible = o.possible }
 
 pub returns : goal.returns
 returns c =
@@ -79,9 +73,9 @@ returns c =
     let g = c.args.number in
     let e = c.args.early in
     let l = c.args.late in
-    let p = said (goal.at.returns c).In-ok-place in
     let x = to_z-of_z w32 e c.ranges.early in
     let y = to_z-of_z w32 l c.ranges.late in
+    let p = said k g _ e _ l c.in_ok-place.place x y c.in_ok-place.ensures in
     let new = c.waiting.ensures ∙ (λ j. waiting g (x j) (y j)) in
     let rows = c.insert.ensures ∙ (λ j. insert k.rows (p.value j) (new j)) in
     let o = success k (Enter g e l) _ p.none (ap (with_rows k) rows) in

@@ -12,10 +12,16 @@ use Rattle.sheet.proofs.Steps.{open_goes_on}
 use Rattle.sheet.proofs.sheet.Sheet.open.Goals as goal
 
 pub invariant_of-self : goal.invariant_of-self
-invariant_of-self c = let s = c.args.self.now in owed _ (none_kept s.saved.pace s.saved.steady) _ s.saved.pace c.clear.ensures refl
+invariant_of-self c =
+    let s = c.args.self.now in
+    let o = owed _ (none_kept s.saved.pace s.saved.steady) _ s.saved.pace c.clear.ensures refl in
+    (o.sorted, (o.kept, (o.steady, (o.possible, tt))))
 
 pub invariant_of-self-2 : goal.invariant_of-self-2
-invariant_of-self-2 c = let s = c.args.self.now in owed _ (none_kept s.pace s.steady) _ s.pace c.clear.ensures refl
+invariant_of-self-2 c =
+    let s = c.args.self.now in
+    let o = owed _ (none_kept s.pace s.steady) _ s.pace c.clear.ensures refl in
+    record { sorted = o.sorted; kept = o.kept; steady = o.steady; possible = o.possible }
 
 pub returns-then-self : goal.returns-then-self
 returns-then-self c =

@@ -1,6 +1,6 @@
 use Rattle.std.proofs.Common.{◌≡◌, ◌<◌, ◌≤◌, true, List, length, sym, ◌∙◌, subst, arith}
 use Rattle.std.specs.List.{insert, list_all}
-use Rattle.std.proofs.lemmas.List.Edits.{length_insert}
+use Rattle.std.proofs.lemmas.List.Edits.{length-insert}
 use Rattle.sheet.specs.declared.row.Row.{Row}
 use Rattle.sheet.specs.Sheets.{content}
 use Rattle.sheet.specs.Sound.{sound}
@@ -24,7 +24,7 @@ returns c =
     let rs = (content s).rows in
     let i = c.args.place in
     let r = c.args.row in
-    let n = length_insert rs i r c.requires.inside in
+    let n = length-insert rs i r c.requires.inside in
     let h = c.requires.room in
     let few : length (insert rs i r) ≤ 64 = omega arith in
     let e = c.new.ensures in

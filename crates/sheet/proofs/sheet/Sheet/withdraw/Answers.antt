@@ -25,7 +25,8 @@ invariant_of-self c =
     let g = c.args.number in
     let p = passes k (Withdraw g) (stepped_at g step.Withdraw k.rows) _ c.in_ok-place.ensures in
     let rows = c.remove.ensures ∙ (λ j. remove k.rows (p.value j).0) in
-    owed (change_made (Withdraw g) k) (withdraw_keeps k (kept_by_sheet s) g p.none) _ s.pace rows refl
+    let o = owed (change_made (Withdraw g) k) (withdraw_keeps k (kept_by_sheet s) g p.none) _ s.pace rows refl in
+    record { sorted = o.sorted; kept = o.kept; steady = o.steady; possible = o.possible }
 
 pub returns : goal.returns
 returns c =

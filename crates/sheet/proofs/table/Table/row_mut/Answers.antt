@@ -7,4 +7,5 @@ use Rattle.sheet.proofs.table.Table.row_mut.Goals as goal
 pub returns : goal.returns
 returns c =
     let rows = c.args.self.now.rows in
-    ((refl, λ w. same_table _ _ _), get_or_read_under rows.items c.args.place rows.len c.index-mut.result.now nobody c.index-mut.ensures.value c.requires rows.ok.0)
+    let value = get_or_read_under rows.items c.args.place rows.len c.index_mut.result.now nobody c.index_mut.ensures.value c.requires rows.ok.0 in
+    ((refl, λ w. same_table _ _ _), record { follows = tt; value = value })

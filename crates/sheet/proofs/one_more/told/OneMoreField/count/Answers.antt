@@ -1,5 +1,5 @@
 use Rattle.std.proofs.Common.{sym, ◌∙◌}
-use Rattle.std.proofs.lemmas.List.Edits.{length_insert}
+use Rattle.std.proofs.lemmas.List.Edits.{length-insert}
 use Rattle.std.proofs.lemmas.List.{length-map}
 use Rattle.std.specs.List.{insert}
 use Rattle.sheet.specs.Standings.{counts}
@@ -8,4 +8,4 @@ use Rattle.sheet.proofs.one_more.told.OneMoreField.count.Goals as goal
 pub returns : goal.returns
 returns c =
     let s = c.args.self.now in
-    sym (length-map (insert s.rows.now s.place s.row) counts ∙ length_insert s.rows.now s.place s.row s.inside)
+    sym (length-map (insert s.rows.now s.place s.row) counts ∙ length-insert s.rows.now s.place s.row s.inside)
