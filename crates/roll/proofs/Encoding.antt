@@ -1,13 +1,12 @@
 -- What is written of a call is read as that call.
-use Rattle.std.proofs.Common.{◌≡◌, ℕ, suc, ◌+◌, ◌-◌, ◌*◌, ◌/◌, ◌%◌, ◌^◌, ◌<◌, ◌≤◌, Bool, true, List, [], ◌∷◌, ◌++◌, length, ℤ, Ok, Result, sym, refl, ap, ◌∙◌, arith, w32, SFits, to_z, of_z, rules}
+use Rattle.std.proofs.Common.{◌≡◌, ℕ, ◌+◌, ◌*◌, ◌/◌, ◌%◌, ◌<◌, List, ◌++◌, length, ℤ, Ok, refl, ap, ◌∙◌, arith, w32, SFits, to_z, of_z, rules}
 use lib.Signed.{mag}
 use mir.ValLaws.{of_z_fits}
-use Rattle.std.proofs.lemmas.Int.{ints, to_z-of_z}
-use Rattle.sheet.specs.declared.call.Call.{Call}
+use Rattle.std.proofs.lemmas.Int.{to_z-of_z}
 use Rattle.sheet.specs.declared.call.Call.TheVariants.{Enter, Pace, CallUp, SendAway}
-use Rattle.roll.specs.Records.{Said, plain, size, parsed, body_read}
+use Rattle.roll.specs.Records.{Said, plain, size, parsed}
 use Rattle.roll.proofs.Whole.{is_whole, parsed_whole}
-use Rattle.roll.specs.Written.{half_bytes, word_bytes, pace_record, enter_record, call_record, away_record}
+use Rattle.roll.specs.Written.{pace_record, enter_record, call_record, away_record}
 
 half_back : (n : ℕ) → n < 65536 → n / 256 % 256 * 256 + n % 256 ≡ n
 half_back n h = search rules

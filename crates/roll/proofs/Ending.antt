@@ -1,11 +1,11 @@
 -- Bytes that are played to their end.
-use Rattle.std.proofs.Common.{◌≡◌, ℕ, ◌+◌, ◌<◌, List, [], ◌++◌, length, drop, Some, None, Ok, Option, Result, sym, refl, ap, ◌∙◌, subst, arith, length-append}
+use Rattle.std.proofs.Common.{◌≡◌, ℕ, ◌+◌, ◌<◌, List, [], ◌++◌, length, drop, Some, None, Option, Result, refl, ap, ◌∙◌, arith, length-append}
 use Rattle.std.proofs.lemmas.List.{drop_at}
 use Rattle.sheet.specs.Trials.{Held, decision}
 use Rattle.roll.specs.Faults.{refused}
-use Rattle.roll.specs.Records.{Said, size, parsed}
+use Rattle.roll.specs.Records.{Said, size}
 use Rattle.roll.specs.Meaning.{Placed, Meaning, followed, continued, reading, read_from}
-use Rattle.roll.specs.Playing.{Outcome, by_no, changed, playing}
+use Rattle.roll.specs.Playing.{by_no, changed, playing}
 use Rattle.roll.proofs.Following.{read_some}
 use Rattle.roll.proofs.Encoding.{Encodes}
 

@@ -1,18 +1,18 @@
 -- Taking groups away or widening windows never loses an order of play.
-use Rattle.std.proofs.Common.{◌≡◌, ℕ, zero, suc, ◌<◌, ◌≤◌, true, List, [], ◌∷◌, ◌++◌, map, length, get_or, take, ℤ, pos, sym, refl, ap, ◌∙◌, subst, arith}
+use Rattle.std.proofs.Common.{◌≡◌, ℕ, zero, suc, ◌<◌, ◌≤◌, true, List, [], ◌∷◌, ◌++◌, map, length, get_or, take, ℤ, pos, sym, ◌∙◌, subst, arith}
 use lib.ListN.{get_or-map}
 use Rattle.std.proofs.lemmas.List.{length-map, length-take-le, get_or-take}
 use Rattle.std.proofs.lemmas.Bool.{and_parts}
 use Rattle.std.specs.List.{list_all}
 use Rattle.field.specs.declared.window.Window.{Window}
-use Rattle.field.specs.Windows.{outside, window}
+use Rattle.field.specs.Windows.{window}
 use Rattle.theory.specs.Orders.{In, Apart, OrderOfPlay, window_at, start_at}
 use Rattle.sheet.specs.declared.row.Row.{Row}
 use Rattle.sheet.specs.declared.row.Standing.{Standing}
 use Rattle.sheet.specs.declared.row.Standing.TheVariants.{Waiting, Called, Away}
 use Rattle.sheet.specs.Standings.{counts, nobody, waiting, window_by}
 use Rattle.sheet.specs.Sound.{kept_time, sound}
-use Rattle.sheet.specs.Content.{Content, Playable, windows_of}
+use Rattle.sheet.specs.Content.{Playable, windows_of}
 use Rattle.sheet.proofs.Soundness.{parts}
 use Rattle.sheet.proofs.Widening.{alone_within}
 

@@ -1,9 +1,9 @@
 -- What writing a roll answers and leaves, once no trial is open.
-use Rattle.std.proofs.Common.{◌≡◌, ℕ, Bool, true, false, cond, eqb, leb, List, [], ◌∷◌, ◌++◌, length, take, drop, IfOk, Some, None, Ok, Err, Option, Result, sym, refl, ap, ◌∙◌, subst, arith}
+use Rattle.std.proofs.Common.{◌≡◌, ℕ, Bool, false, cond, leb, List, [], ◌∷◌, length, take, drop, IfOk, Some, None, Ok, Err, Option, Result, sym, refl, ap, ◌∙◌, subst, arith}
 use Rattle.std.proofs.lemmas.List.{take_at}
 use Rattle.std.proofs.lemmas.Bool.{leb-false, eq-eqb}
 use Rattle.field.specs.declared.refusal.Refusal.{Refusal}
-use Rattle.field.specs.Refusals.{by_number, number_of, first_no}
+use Rattle.field.specs.Refusals.{by_number, first_no}
 use Rattle.page.specs.Pages.{q_list, fitted}
 use Rattle.reckoning.specs.Lists.{answer, leaves}
 use Rattle.sheet.specs.Questions.{answered}

@@ -1,5 +1,5 @@
 -- What the bytes of a roll mean: its records in order, and how they end.
-use Rattle.std.specs.Prelude.{ℕ, zero, suc, ◌+◌, ◌-◌, Bool, true, cond, ◌&&◌, List, [], ◌∷◌, ◌++◌, length, drop, Some, None, Ok, Err, Option, Result, ◌==◌, nat_le, slice_index}
+use Rattle.std.specs.Prelude.{ℕ, zero, suc, ◌+◌, ◌-◌, Bool, cond, ◌&&◌, List, [], ◌∷◌, length, drop, Some, None, Ok, Err, Option, Result, ◌==◌, nat_le, slice_index}
 use Rattle.field.specs.Refusals.{Question, question, first_no}
 use Rattle.roll.specs.declared.fault.Fault.{Fault}
 use Rattle.roll.specs.declared.fault.Flaw.{Flaw}

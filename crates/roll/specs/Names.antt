@@ -5,7 +5,7 @@ use Rattle.roll.specs.declared.fault.Fault.{Fault}
 use Rattle.sheet.specs.declared.call.Call.{Call}
 use Rattle.sheet.specs.declared.call.Call.TheVariants.{Enter, Change, Withdraw, Pace, CallUp, StandDown, SendAway, Open, Keep, Back, Order, Through, RangeOf, Spans}
 use Rattle.roll.specs.Faults.{Named}
-use Rattle.roll.specs.Meaning.{Placed, Meaning, meaning}
+use Rattle.roll.specs.Meaning.{Placed, meaning}
 
 -- the name after one call more: an enter of the group gives it another
 abbrev pub renamed : ℕ → List ℕ → Call → List ℕ → List ℕ

@@ -7,7 +7,7 @@ use Rattle.sheet.specs.Answers.{done, said_by}
 use Rattle.sheet.specs.Questions.{answered}
 use Rattle.sheet.specs.Book.{Event, History, more, no_lists}
 use Rattle.roll.specs.Faults.{Named, refused}
-use Rattle.roll.specs.Meaning.{Placed, Meaning, meaning}
+use Rattle.roll.specs.Meaning.{Placed, meaning}
 
 -- what is held with the change of a call made
 abbrev pub changed : Held → Call → Held

@@ -2,7 +2,7 @@
 use Rattle.std.specs.Prelude.{◌≡◌, ℕ, List, None}
 use Rattle.sheet.specs.Content.{Content, blank}
 use Rattle.sheet.specs.Trials.{Held}
-use Rattle.roll.specs.Playing.{Outcome, played}
+use Rattle.roll.specs.Playing.{played}
 
 -- what the sheet with this number holds, with no trial open
 abbrev pub outside_trial : ℕ → Content → Held

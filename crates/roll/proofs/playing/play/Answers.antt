@@ -2,7 +2,7 @@ use Rattle.std.proofs.Common.{◌≡◌, Some, None, Ok, Err, Result, sym, ap, �
 use Rattle.field.specs.Refusals.{number_of}
 use Rattle.roll.specs.declared.fault.Fault.{Fault}
 use Rattle.roll.specs.declared.records.Entry.{Entry}
-use Rattle.roll.specs.Faults.{by_name, named, refused}
+use Rattle.roll.specs.Faults.{by_name, named}
 use Rattle.roll.specs.Meaning.{heard, left, over, followed, placed}
 use Rattle.roll.specs.Playing.{unless}
 use Rattle.roll.proofs.Underway.{begins, goes_on, finishes, continues, stops}

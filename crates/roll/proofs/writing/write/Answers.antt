@@ -1,11 +1,11 @@
-use Rattle.std.proofs.Common.{◌≡◌, ℕ, List, length, Result, sym, ap, ◌∙◌, subst}
+use Rattle.std.proofs.Common.{◌≡◌, ℕ, List, length, Result, sym, ap, ◌∙◌}
 use Rattle.page.specs.Pages.{text, fitted}
 use Rattle.reckoning.specs.Lists.{answer, leaves}
 use Rattle.sheet.specs.Sheets.{content, holds}
 use Rattle.sheet.proofs.Keeping.{kept_by_sheet}
 use Rattle.sheet.proofs.Tried.{few}
 use Rattle.roll.specs.RoundTrip.{GivesBack}
-use Rattle.roll.specs.Written.{written, wrote}
+use Rattle.roll.specs.Written.{written}
 use Rattle.roll.proofs.Round.{gives_back}
 use Rattle.roll.proofs.Wrote.{no_trial, holds_of_written}
 use Rattle.roll.proofs.writing.write.Goals as goal

@@ -1,4 +1,4 @@
-use Rattle.std.proofs.Common.{◌≡◌, ℕ, ◌+◌, ◌-◌, ◌<◌, false, cond, eqb, length, drop, Ok, Err, Result, refl, ap, ◌∙◌, arith, rules}
+use Rattle.std.proofs.Common.{◌≡◌, ℕ, ◌+◌, ◌-◌, ◌<◌, false, cond, eqb, length, drop, Ok, Err, Result, ap, ◌∙◌, arith, rules}
 use Rattle.std.proofs.lemmas.List.{drop_all, take_rest}
 use Rattle.roll.specs.Faults.{flaw_number}
 use Rattle.roll.specs.declared.records.Records.{Records}
@@ -6,7 +6,6 @@ use Rattle.roll.specs.Meaning.{ahead}
 use Rattle.roll.specs.Records.{Said, said, parsed}
 use Rattle.roll.proofs.Following.{read_none, read_here, stop_here, fits_here, fewer_ahead}
 use Rattle.roll.proofs.records.Records.following.Goals as goal
-use Rattle.roll.proofs.records.Records.following.Goals.{In-Ok}
 
 pub returns-then-self : goal.returns-then-self
 returns-then-self c =
@@ -19,7 +18,7 @@ invariant_of-self c =
     let roll = s.roll.now in
     let inside : s.place < length roll = omega (arith, s.inside) in
     let p : ◌≡◌ {A = Result Said ℕ} (Ok (said c.in-Ok.record)) (parsed (drop s.place roll)) = c.in-Ok.ensures ∙ ap parsed (take_rest roll s.place) in
-    (fits_here roll s.turn s.place inside c.from.result (said c.in-Ok.record) c.from.ensures p, (omega arith, tt))
+    record { inside = fits_here roll s.turn s.place inside c.from.result (said c.in-Ok.record) c.from.ensures p; few = omega arith }
 
 -- the exit's turn is not 0
 fewer : (s : Records) (next : ℕ) → s.place < length s.roll.now → s.place < next → length s.roll.now - cond (eqb (s.turn + 1) 0) 0 next < ahead s
