@@ -4,7 +4,7 @@ ghost use Rattle.field.specs.Refusals.{by_number};
 ghost use Rattle.reckoning.specs.Lists.{answer, leaves};
 ghost use Rattle.reckoning.specs.Order.{Plays};
 ghost use Rattle.reckoning.specs.Spans.{Unused};
-ghost use Rattle.sheet.specs.Answers.{count, range as told-range, said_by};
+ghost use Rattle.sheet.specs.Answers.{count, range as told_range, said_by};
 ghost use Rattle.sheet.specs.Book.{no_lists};
 ghost use Rattle.sheet.specs.Calls.{Order, RangeOf, Spans, Through, change_made};
 ghost use Rattle.sheet.specs.Content.{order_of, spans_of, windows_of};
@@ -27,7 +27,7 @@ impl Sheet {
     pub fn order(&self, list: &mut [Start]) -> Result<usize, Refusal>
         ensures answer { by_number result ≡ answer (answered (verdict (content self.now) Order (length list.old)) (order_of (content self.now))) }
         ensures list { list.new ≡ leaves (answered (verdict (content self.now) Order (length list.old)) (order_of (content self.now))) list.old }
-        ensures held { content self.now ≡ content self.now }
+        ensures held { content self.exit.now ≡ content self.entry.now }
         ensures plays { IfOk result (λ n. Plays (pos (content self.now).pace) (windows_of (content self.now).rows) (take n list.new)) }
         ensures law { GoesOn self.now Order (record { starts = list.old; spans = [] }) (said_by count (by_number result)) (record { starts = list.new; spans = [] }) self.now }
     {
@@ -38,7 +38,7 @@ impl Sheet {
     pub fn spans(&self, list: &mut [Span]) -> Result<usize, Refusal>
         ensures answer { by_number result ≡ answer (answered (verdict (content self.now) Spans (length list.old)) (spans_of (content self.now))) }
         ensures list { list.new ≡ leaves (answered (verdict (content self.now) Spans (length list.old)) (spans_of (content self.now))) list.old }
-        ensures held { content self.now ≡ content self.now }
+        ensures held { content self.exit.now ≡ content self.entry.now }
         ensures unused { IfOk result (λ n. Unused (pos (content self.now).pace) (windows_of (content self.now).rows) (take n list.new)) }
         ensures law { GoesOn self.now Spans (record { starts = []; spans = list.old }) (said_by count (by_number result)) (record { starts = []; spans = list.new }) self.now }
     {
@@ -49,7 +49,7 @@ impl Sheet {
     pub fn through(&self, number: u16, time: i32, list: &mut [Start]) -> Result<usize, Refusal>
         ensures answer { by_number result ≡ answer (answered (verdict (content self.now) (Through number time) (length list.old)) (order_of (change_made (Through number time) (content self.now)))) }
         ensures list { list.new ≡ leaves (answered (verdict (content self.now) (Through number time) (length list.old)) (order_of (change_made (Through number time) (content self.now)))) list.old }
-        ensures held { content self.now ≡ content self.now }
+        ensures held { content self.exit.now ≡ content self.entry.now }
         ensures thirteen { Thirteen (content self.now) (Through number time) (length list.old) result }
         ensures plays { IfOk result (λ n. Plays (pos (content self.now).pace) (windows_of (change_made (Through number time) (content self.now)).rows) (take n list.new)) }
         ensures law { GoesOn self.now (Through number time) (record { starts = list.old; spans = [] }) (said_by count (by_number result)) (record { starts = list.new; spans = [] }) self.now }
@@ -61,7 +61,7 @@ impl Sheet {
     /// Tells the first and the last start of a group.
     pub fn range(&self, number: u16) -> Result<Range, Refusal>
         ensures exact { GroupTold (content self.now) number result }
-        ensures law { GoesOn self.now (RangeOf number) no_lists (said_by told-range (by_number result)) no_lists self.now }
+        ensures law { GoesOn self.now (RangeOf number) no_lists (said_by told_range (by_number result)) no_lists self.now }
     {
         let place = self.table.find(number)?;
         range(&self.rows(), self.pace, place)

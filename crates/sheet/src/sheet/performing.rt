@@ -1,7 +1,7 @@
 //! Every call by one door, and the law over whole runs on it.
 
 ghost use Rattle.field.specs.Refusals.{by_number};
-ghost use Rattle.sheet.specs.Answers.{count, done, range as told-range, said, said_back, said_by, slip as told-slip, slip_by_number};
+ghost use Rattle.sheet.specs.Answers.{count, done, range as told_range, said, said_back, said_by, slip as told_slip, slip_by_number};
 ghost use Rattle.sheet.specs.Law.{FieldTold, GoesOn};
 ghost use Rattle.sheet.specs.OneBook.{OneBook};
 ghost use Rattle.sheet.specs.OneCall.{ComesTo};
@@ -25,7 +25,7 @@ fn finished(r: Result<(), Refusal>) -> Answer
 }
 
 fn opened(r: Result<Slip, Refusal>) -> Answer
-    ensures { said result ≡ said_by (λ s. told-slip s.sheet) (by_number r) }
+    ensures { said result ≡ said_by (λ s. told_slip s.sheet) (by_number r) }
 {
     match r {
         Ok(slip) => Answer::Opened { slip },
@@ -52,7 +52,7 @@ fn counted(r: Result<usize, Refusal>) -> Answer
 }
 
 fn ranged(r: Result<Range, Refusal>) -> Answer
-    ensures { said result ≡ said_by told-range (by_number r) }
+    ensures { said result ≡ said_by told_range (by_number r) }
 {
     match r {
         Ok(range) => Answer::Ranged { range },
@@ -64,8 +64,8 @@ impl Sheet {
     /// Makes a call. It comes to what the book would have of it on what the sheet holds; whatever calls came before,
     /// the run goes on by the law.
     pub fn perform(&mut self, call: Call, starts: &mut [Start], spans: &mut [Span]) -> Answer
-        ensures step { ComesTo self.old call (record { starts = starts.entry.now; spans = spans.old }) (said result) (record { starts = starts.exit.now; spans = spans.new }) self.new }
-        ensures law { GoesOn self.old call (record { starts = starts.entry.now; spans = spans.old }) (said result) (record { starts = starts.exit.now; spans = spans.new }) self.new }
+        ensures step { ComesTo self.old call (record { starts = starts.old; spans = spans.old }) (said result) (record { starts = starts.new; spans = spans.new }) self.new }
+        ensures law { GoesOn self.old call (record { starts = starts.old; spans = spans.old }) (said result) (record { starts = starts.new; spans = spans.new }) self.new }
     {
         match call {
             Call::Enter {
@@ -102,7 +102,7 @@ impl Sheet {
         starts: &mut [Start],
         spans: &mut [Span],
     ) -> Answer
-        ensures law { elim request [ Make call ↦ GoesOn self.old call (record { starts = starts.entry.now; spans = spans.old }) (said result) (record { starts = starts.exit.now; spans = spans.new }) self.new | Ask pace place ↦ FieldTold (F.Field.windows field.now) pace place (said result) × (self.new ≡ self.old) × (starts.exit.now ≡ starts.entry.now) × (spans.new ≡ spans.old) ] }
+        ensures law { elim request [ Make call ↦ GoesOn self.old call (record { starts = starts.old; spans = spans.old }) (said result) (record { starts = starts.new; spans = spans.new }) self.new | Ask pace place ↦ FieldTold (F.Field.windows field.now) pace place (said result) × (self.new ≡ self.old) × (starts.new ≡ starts.old) × (spans.new ≡ spans.old) ] }
         ensures alone { OneBook }
     {
         match request {

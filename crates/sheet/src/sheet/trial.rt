@@ -2,7 +2,7 @@
 //! first and put in last: no rows have an order of play at every pace.
 
 ghost use Rattle.field.specs.Refusals.{by_number};
-ghost use Rattle.sheet.specs.Answers.{ended, said_back, said_by, slip as told-slip, slip_by_number};
+ghost use Rattle.sheet.specs.Answers.{ended, said_back, said_by, slip as told_slip, slip_by_number};
 ghost use Rattle.sheet.specs.Book.{no_lists};
 ghost use Rattle.sheet.specs.Calls.{Keep, Open};
 ghost use Rattle.sheet.specs.Law.{GoesOn};
@@ -28,7 +28,7 @@ impl Sheet {
         ensures held { content self.new ≡ content self.old }
         ensures saved { at_open self.new ≡ after (decision (holds self.old) Open 0) (Some (content self.old)) (at_open self.old) }
         ensures number { self.new.number ≡ self.old.number }
-        ensures law { GoesOn self.old Open no_lists (said_by (λ s. told-slip s.sheet) (by_number result)) no_lists self.new }
+        ensures law { GoesOn self.old Open no_lists (said_by (λ s. told_slip s.sheet) (by_number result)) no_lists self.new }
     {
         if self.trial {
             return Err(Refusal::TrialOpen);
