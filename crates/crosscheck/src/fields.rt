@@ -2,7 +2,7 @@
 
 ghost use Rattle.field.specs.Reversed.{turned};
 ghost use Rattle.field.specs.Strip.{records};
-ghost use Rattle.field.specs.Windows.{window, early_at, late_at};
+ghost use Rattle.field.specs.Windows.{window, window_at};
 ghost use Rattle.std.specs.Prelude.{◌≡◌, map, negsuc, slice_set};
 
 use crate::telling::{no_spans, no_starts, tell_list};
@@ -180,13 +180,10 @@ pub fn short_lists(rt: &HostRuntime) -> io::Result<()> {
 
 /// What a pile of layers tells at a place: its meaning is that of its layers, one after another.
 fn piled(bytes: &[u8], place: usize) -> Window
-    ensures { result ≡ window (early_at (map turned (slice_set (map turned (records bytes.now)) 1 (window (negsuc 899) (negsuc 99)))) place) (late_at (map turned (slice_set (map turned (records bytes.now)) 1 (window (negsuc 899) (negsuc 99)))) place) }
+    ensures { result ≡ window_at (map turned (slice_set (map turned (records bytes.now)) 1 (window (negsuc 899) (negsuc 99)))) place }
 {
     let pile = Reversed(Held::new(Reversed(Strip { bytes }), 1, -900, -100));
-    Window {
-        early: pile.early(place),
-        late: pile.late(place),
-    }
+    pile.window(place)
 }
 
 /// A reversed, held and reversed strip, place by place and at one outside.

@@ -1,3 +1,3 @@
 pub mod InARow
 pub mod Records
-pub mod SetOnce
+pub mod Same

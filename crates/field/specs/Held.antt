@@ -3,7 +3,7 @@ use Rattle.std.specs.Prelude.{ℕ, zero, suc, ◌<◌, List, [], ◌∷◌, ℤ,
 use Rattle.std.proofs.Common.{arith}
 use Rattle.std.specs.Int.Signed.{mag}
 use Rattle.std.proofs.lemmas.Int.{ints}
-use Rattle.field.specs.Windows.{Window, window, outside, early_at, late_at, Told}
+use Rattle.field.specs.Windows.{Window, outside, early_at, late_at, Told}
 
 fits_told : (z : ℤ) → mag z < 2147483648 → Told z
 fits_told (pos n) f = (omega (arith, ints), omega (arith, ints))
@@ -17,5 +17,5 @@ set_keeps P (x ∷ xs) zero y d p q (suc k) = q (suc k)
 set_keeps P (x ∷ xs) (suc i) y d p q zero = q zero
 set_keeps P (x ∷ xs) (suc i) y d p q (suc k) = set_keeps P xs i y d p (λ j. q (suc j)) k
 
-pub held_told : (ws : List Window) (i : ℕ) (e l : ℤ) → mag e < 2147483648 → mag l < 2147483648 → ((k : ℕ) → Told (early_at ws k) × Told (late_at ws k)) → (k : ℕ) → Told (early_at (slice_set ws i (window e l)) k) × Told (late_at (slice_set ws i (window e l)) k)
-held_told ws i e l f h q k = set_keeps (λ w. Told w.early × Told w.late) ws i (window e l) outside (fits_told e f, fits_told l h) q k
+pub held_told : (ws : List Window) (i : ℕ) (w : Window) → Told w.early × Told w.late → ((k : ℕ) → Told (early_at ws k) × Told (late_at ws k)) → (k : ℕ) → Told (early_at (slice_set ws i w) k) × Told (late_at (slice_set ws i w) k)
+held_told ws i w f q k = set_keeps (λ v. Told v.early × Told v.late) ws i w outside f q k

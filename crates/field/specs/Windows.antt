@@ -10,11 +10,15 @@ window e l = record { early = e; late = l }
 abbrev pub outside : Window
 outside = window (pos 0) (pos 0)
 
+-- what is told at a place
+abbrev pub window_at : List Window → ℕ → Window
+window_at ws k = slice_index_or ws k outside
+
 abbrev pub early_at : List Window → ℕ → ℤ
-early_at ws k = (slice_index_or ws k outside).early
+early_at ws k = (window_at ws k).early
 
 abbrev pub late_at : List Window → ℕ → ℤ
-late_at ws k = (slice_index_or ws k outside).late
+late_at ws k = (window_at ws k).late
 
 -- every time that a field tells lies from -2^31 to 2^31
 abbrev pub Told : ℤ → Type 0

@@ -5,7 +5,9 @@
 //! two like questions differently.
 
 ghost use Rattle.std.specs.Prelude.{◌≡◌, ℕ, ◌≤◌, List, length, slice_index};
-ghost use Rattle.field.specs.Windows.{Window, early_at, late_at, Told};
+ghost use Rattle.field.specs.Windows.{Window, early_at, late_at, window_at, Told};
+
+use crate::window::Window;
 
 /// A list of windows, told place by place.
 pub trait Field {
@@ -17,13 +19,9 @@ pub trait Field {
     fn count(&self) -> usize
         ensures { result ≡ length (windows self.now) };
 
-    /// The early start at a place, 0 at one outside.
-    fn early(&self, place: usize) -> i64
-        ensures { result ≡ early_at (windows self.now) place };
-
-    /// The late start at a place, 0 at one outside.
-    fn late(&self, place: usize) -> i64
-        ensures { result ≡ late_at (windows self.now) place };
+    /// The early and the late start at a place, both 0 at one outside.
+    fn window(&self, place: usize) -> Window
+        ensures { result ≡ window_at (windows self.now) place };
 }
 
 /// A field that also tells the group number at a place.

@@ -1,25 +1,18 @@
-//! The layer that lends a field.
+//! A field that is only lent is a field, for a layer that wants to hold one.
 
 use crate::interface::Field;
+use crate::window::Window;
 
-/// A field that is only lent, for a layer that wants to hold one.
-#[derive(Drop)]
-pub struct Lent<'a, F>(pub &'a F);
+impl<F: Field> Field for &F {
+    ghost windows = { λ s. F.Field.windows s.now };
 
-impl<'a, F: Field> Field for Lent<'a, F> {
-    ghost windows = { λ s. F.Field.windows s.0.now };
-
-    ghost bounded = { λ s k. F.Field.bounded s.0.now k };
+    ghost bounded = { λ s k. F.Field.bounded s.now k };
 
     fn count(&self) -> usize {
-        self.0.count()
+        (**self).count()
     }
 
-    fn early(&self, place: usize) -> i64 {
-        self.0.early(place)
-    }
-
-    fn late(&self, place: usize) -> i64 {
-        self.0.late(place)
+    fn window(&self, place: usize) -> Window {
+        (**self).window(place)
     }
 }

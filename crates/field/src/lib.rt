@@ -1,14 +1,14 @@
 //! Fields: what a reckoning reads.
 //!
 //! A field means a list of windows, counted by place from 0. `Field` is the interface, `Numbered`
-//! adds group numbers, `Strip` reads a field from bytes, and `Reversed`, `Held` and `Lent` are
-//! layers that stand on any field.
+//! adds group numbers, `Strip` reads a field from bytes, and `Reversed` and `Held` are
+//! layers that stand on any field, one that is only lent too.
 
 #![tactic(auto)]
 
 pub mod held;
 pub mod interface;
-pub mod lent;
+mod lent;
 pub mod refusal;
 pub mod reversed;
 pub mod strip;
@@ -16,7 +16,6 @@ pub mod window;
 
 pub use held::Held;
 pub use interface::{Field, Numbered};
-pub use lent::Lent;
 pub use refusal::Refusal;
 pub use reversed::Reversed;
 pub use strip::Strip;

@@ -4,6 +4,7 @@ ghost use Rattle.field.specs.Reversed.{turned, turned_told};
 ghost use Rattle.std.specs.Prelude.{map};
 
 use crate::interface::{Field, Numbered};
+use crate::window::Window;
 
 /// The field below with each window early..late turned into −late..−early, at the same place.
 #[derive(Drop)]
@@ -18,12 +19,12 @@ impl<F: Field> Field for Reversed<F> {
         self.0.count()
     }
 
-    fn early(&self, place: usize) -> i64 {
-        -self.0.late(place)
-    }
-
-    fn late(&self, place: usize) -> i64 {
-        -self.0.early(place)
+    fn window(&self, place: usize) -> Window {
+        let Window { early, late } = self.0.window(place);
+        Window {
+            early: -late,
+            late: -early,
+        }
     }
 }
 

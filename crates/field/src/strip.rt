@@ -4,6 +4,10 @@ ghost use Rattle.std.specs.Prelude.{◌≡◌, ◌+◌, ◌<◌, length};
 ghost use Rattle.field.specs.Strip.{records, word, numbers_of, records_told};
 
 use crate::interface::{Field, Numbered};
+use crate::window::Window;
+
+/// How many bytes a record has.
+const RECORD: usize = 10;
 
 /// Ten-byte records, high byte first: number (16 bits), early and late (signed, 32 bits). A shorter
 /// tail is no record.
@@ -29,22 +33,15 @@ impl Field for Strip<'_> {
     ghost bounded = { λ s k. records_told s.bytes.now k };
 
     fn count(&self) -> usize {
-        self.bytes.len() / 10
+        self.bytes.len() / RECORD
     }
 
-    fn early(&self, place: usize) -> i64 {
-        if place < self.bytes.len() / 10 {
-            i64::from(self.word(place * 10 + 2))
+    fn window(&self, place: usize) -> Window {
+        if place < self.bytes.len() / RECORD {
+            let at = place * RECORD;
+            Window::new(self.word(at + 2), self.word(at + 6))
         } else {
-            0
-        }
-    }
-
-    fn late(&self, place: usize) -> i64 {
-        if place < self.bytes.len() / 10 {
-            i64::from(self.word(place * 10 + 6))
-        } else {
-            0
+            Window::outside()
         }
     }
 }
@@ -53,8 +50,9 @@ impl Numbered for Strip<'_> {
     ghost numbers = { λ s. numbers_of s.bytes.now };
 
     fn number(&self, place: usize) -> u16 {
-        if place < self.bytes.len() / 10 {
-            u16::from_be_bytes([self.bytes[place * 10], self.bytes[place * 10 + 1]])
+        if place < self.bytes.len() / RECORD {
+            let at = place * RECORD;
+            u16::from_be_bytes([self.bytes[at], self.bytes[at + 1]])
         } else {
             0
         }

@@ -13,7 +13,7 @@ use crate::ends::Range;
 use crate::reckon::reckon;
 use crate::windows::Windows;
 use crate::windows::gather::taken;
-use field::{Field, Lent, Refusal, Reversed};
+use field::{Field, Refusal, Reversed};
 
 /// Has the field an order of play with the window of a place cut to its early..late?
 fn is_possible(windows: &Windows, place: usize, late: i64, pace: i64) -> bool
@@ -78,7 +78,7 @@ pub fn range<F: Field>(field: &F, pace: u16, place: usize) -> Result<Range, Refu
     ensures exact { RangeTold pace (F.Field.windows field.now) place result }
 {
     let first = first_start(field, pace, place)?;
-    let turned = first_start(&Reversed(Lent(field)), pace, place)?;
+    let turned = first_start(&Reversed(field), pace, place)?;
     Ok(Range {
         first,
         last: -turned,

@@ -1,11 +1,10 @@
 -- What trying a field of rows tells.
-use Rattle.std.proofs.Common.{◌≡◌, ℕ, ◌≤◌, true, List, map, length, set, ℤ, pos, is_some, is_ok, Some, None, Ok, Err, Option, Result, sym, refl, ap, ◌∙◌, arith}
+use Rattle.std.proofs.Common.{◌≡◌, ℕ, ◌≤◌, true, List, map, length, set, pos, is_some, is_ok, Some, None, Ok, Err, Option, Result, sym, refl, ap, ◌∙◌, arith}
 use Rattle.std.proofs.lemmas.List.{map-set}
 use Rattle.std.specs.List.{insert, list_all}
 use Rattle.field.specs.declared.refusal.Refusal.{Refusal}
 use Rattle.field.specs.declared.window.Window.{Window}
 use Rattle.field.specs.Refusals.{by_number}
-use Rattle.field.specs.Windows.{window}
 use Rattle.theory.specs.declared.span.Span.{Span}
 use Rattle.theory.specs.Method.{forbidden}
 use Rattle.reckoning.specs.Lists.{decided, mapped}
@@ -36,10 +35,9 @@ tried rs p ws r same told h few all =
     (told ∙ ap (λ (vs : List Window). decided (refused p vs) (mapped (λ _. tt) (forbidden (pos p) vs))) same ∙ ap (λ (a : Option ℕ). decided a (mapped (λ _. tt) (forbidden (pos p) (windows_of rs)))) (not_refused rs p h few all))
 
 -- one place held to the window that counts of another row
-pub held_windows : (rs vs : List Row) (i k : ℕ) (r : Row) (e l : ℤ) → vs ≡ rs → k ≡ i → e ≡ (counts r).early → l ≡ (counts r).late → set (map counts vs) k (window e l) ≡ windows_of (set rs i r)
-held_windows rs vs i k r e l a b c d =
-    let w : window e l ≡ counts r = λ j. window (c j) (d j) in
-    ap (λ (us : List Row). set (map counts us) k (window e l)) a ∙ ap (λ (n : ℕ). set (map counts rs) n (window e l)) b ∙ ap (λ (v : Window). set (map counts rs) i v) w ∙ sym (map-set counts rs i r)
+pub held_windows : (rs vs : List Row) (i k : ℕ) (r : Row) (w : Window) → vs ≡ rs → k ≡ i → w ≡ counts r → set (map counts vs) k w ≡ windows_of (set rs i r)
+held_windows rs vs i k r w a b c =
+    ap (λ (us : List Row). set (map counts us) k w) a ∙ ap (λ (n : ℕ). set (map counts rs) n w) b ∙ ap (λ (v : Window). set (map counts rs) i v) c ∙ sym (map-set counts rs i r)
 
 pub more_windows : (rs vs : List Row) (i k : ℕ) (r q : Row) → vs ≡ rs → k ≡ i → q ≡ r → windows_of (insert vs k q) ≡ windows_of (insert rs i r)
 more_windows rs vs i k r q a b c = λ j. windows_of (insert (a j) (b j) (c j))

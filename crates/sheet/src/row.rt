@@ -4,7 +4,7 @@ ghost use Rattle.field.specs.Refusals.{by_number};
 ghost use Rattle.sheet.specs.Standings.{counts, stepped, stood, waiting};
 ghost use Rattle.std.specs.Prelude.{◌≡◌};
 
-use field::Refusal;
+use field::{Refusal, Window};
 
 /// How far a group has come: it waits, is called to start at a time, or went away at that time.
 #[derive(Clone, Copy)]
@@ -68,6 +68,14 @@ impl Row {
             Standing::Called(time) => (time, time),
             Standing::Away(time) => (time, time),
         }
+    }
+
+    /// The window that counts.
+    pub fn window(&self) -> Window
+        ensures { result ≡ counts self.now }
+    {
+        let (early, late) = self.counts();
+        Window::new(early, late)
     }
 
     /// The row that a step makes of this one, if the standing allows it. A withdrawn row goes as it is.

@@ -2,7 +2,7 @@
 use Rattle.std.specs.Prelude.{◌≡◌, ℕ, suc, ◌<◌, Bool, cond, ◌&&◌, ◌⊎◌, List, [], ◌∷◌, length, ℤ, pos, ◌+ℤ◌, ◌≤ℤ◌, int_le, slice_index_or}
 -- an early and a late start, both included
 use Rattle.field.specs.declared.window.Window.{Window}
-use Rattle.field.specs.Windows.{outside}
+pub use Rattle.field.specs.Windows.{window_at}
 
 -- x is a start in the window w
 pub record In (w : Window) (x : ℤ) : Type 0 where
@@ -12,9 +12,6 @@ pub record In (w : Window) (x : ℤ) : Type 0 where
 -- two starts are at least p apart
 abbrev pub Apart : ℤ → ℤ → ℤ → Type 0
 Apart p x y = ((x +ℤ p) ≤ℤ y) ⊎ ((y +ℤ p) ≤ℤ x)
-
-abbrev pub window_at : List Window → ℕ → Window
-window_at ws i = slice_index_or ws i outside
 
 abbrev pub start_at : List ℤ → ℕ → ℤ
 start_at xs i = slice_index_or xs i (pos 0)

@@ -42,15 +42,6 @@ impl Windows {
     }
 }
 
-fn window_at<F: Field>(field: &F, place: usize) -> Window
-    ensures { result ≡ slice_index_or (F.Field.windows field.now) place outside }
-{
-    Window {
-        early: field.early(place),
-        late: field.late(place),
-    }
-}
-
 fn gather<F: Field>(field: &F) -> Windows
     requires { length (F.Field.windows field.now) ≤ 64 }
     ensures { take result.len result.list ≡ F.Field.windows field.now }
@@ -58,7 +49,7 @@ fn gather<F: Field>(field: &F) -> Windows
     let mut list = [Window::outside(); 64];
     let len = field.count();
     for place in 0..len {
-        list[place] = window_at(field, place);
+        list[place] = field.window(place);
     }
     Windows { list, len }
 }

@@ -9,7 +9,7 @@ ghost use Rattle.std.specs.List.{insert, list_all};
 use crate::one_more::OneMore;
 use crate::row::Row;
 use crate::rows::row_at;
-use field::Field;
+use field::{Field, Window};
 
 impl OneMore<'_> {
     /// Sound rows with a sound row put in at a place.
@@ -45,11 +45,7 @@ impl Field for OneMore<'_> {
         self.rows.len() + 1
     }
 
-    fn early(&self, place: usize) -> i64 {
-        i64::from(self.row_at(place).counts().0)
-    }
-
-    fn late(&self, place: usize) -> i64 {
-        i64::from(self.row_at(place).counts().1)
+    fn window(&self, place: usize) -> Window {
+        self.row_at(place).window()
     }
 }

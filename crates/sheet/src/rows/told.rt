@@ -8,7 +8,7 @@ ghost use Rattle.std.specs.Prelude.{◌≡◌, true, map, slice_index_or};
 
 use crate::row::{Row, Standing};
 use crate::rows::Rows;
-use field::{Field, Numbered};
+use field::{Field, Numbered, Window};
 
 /// The row at a place, and outside one with no number and the window 0..0.
 pub(crate) fn row_at(rows: &[Row], place: usize) -> Row
@@ -45,12 +45,8 @@ impl Field for Rows<'_> {
         self.rows.len()
     }
 
-    fn early(&self, place: usize) -> i64 {
-        i64::from(row_at(self.rows, place).counts().0)
-    }
-
-    fn late(&self, place: usize) -> i64 {
-        i64::from(row_at(self.rows, place).counts().1)
+    fn window(&self, place: usize) -> Window {
+        row_at(self.rows, place).window()
     }
 }
 

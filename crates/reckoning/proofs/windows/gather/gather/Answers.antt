@@ -7,7 +7,7 @@ use Rattle.reckoning.proofs.windows.gather.gather.Goals as goal
 pub loop-place-preserved : goal.loop-place-preserved
 loop-place-preserved g c =
     let ws = g.F.Field.windows c.args.field.now in
-    (read_more ws c.loop-place.list c.loop-place.place outside c.window_at.result (search rules) (search rules) c.loop-place.invariant.0 c.window_at.ensures, search rules)
+    (read_more ws c.loop-place.list c.loop-place.place outside c.window.result (search rules) (search rules) c.loop-place.invariant.0 c.window.ensures, search rules)
 
 pub returns : goal.returns
 returns g c = grind (arith, take_all)

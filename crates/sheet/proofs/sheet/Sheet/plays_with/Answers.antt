@@ -2,6 +2,8 @@ use Rattle.std.proofs.Common.{◌≡◌, set, ap, ◌∙◌, arith, length-set, 
 use Rattle.sheet.specs.declared.rows.Rows.{Rows}
 use Rattle.sheet.specs.Sheets.{content}
 use Rattle.sheet.specs.Sound.{sound}
+use Rattle.field.proofs.Same.{same_window}
+use Rattle.sheet.specs.Standings.{counts}
 use Rattle.sheet.proofs.Passing.{pass_set}
 use Rattle.sheet.proofs.Tried.{tried, few, held_windows}
 use Rattle.sheet.proofs.sheet.Sheet.plays_with.Goals as goal
@@ -19,4 +21,4 @@ returns c =
     let w = c.counts-early.result in
     let x : to_z w32 (of_z w32 w.0) ≡ w.0 = search rules in
     let y : to_z w32 (of_z w32 w.1) ≡ w.1 = search rules in
-    c.is_ok.ensures.value ∙ tried (set rs i r) s.pace _ c.possible.result (held_windows rs _ i _ r _ _ below h.1 (h.2 ∙ x ∙ c.counts-early.ensures.early) (h.3 ∙ y ∙ c.counts-early.ensures.late)) c.possible.ensures.answer s.steady (omega arith) (pass_set sound rs i r s.kept c.requires)
+    c.is_ok.ensures.value ∙ tried (set rs i r) s.pace _ c.possible.result (held_windows rs _ i _ r _ below h.1 (h.2 ∙ same_window _ (counts r) (x ∙ c.counts-early.ensures.early) (y ∙ c.counts-early.ensures.late))) c.possible.ensures.answer s.steady (omega arith) (pass_set sound rs i r s.kept c.requires)

@@ -12,6 +12,8 @@ use Rattle.sheet.specs.Calls.{Through, change_made}
 use Rattle.sheet.specs.Content.{numbers_of, order_of, place, row, windows_of}
 use Rattle.sheet.specs.Questions.{answered, q_inside, q_list, q_on, q_order, q_time, verdict}
 use Rattle.sheet.specs.Sheets.{content}
+use Rattle.field.proofs.Same.{same_window}
+use Rattle.field.specs.Windows.{window}
 use Rattle.sheet.specs.Standings.{stood}
 use Rattle.sheet.proofs.Keeping.{kept_by_sheet}
 use Rattle.sheet.proofs.Listing.{counted, held_listed}
@@ -64,7 +66,7 @@ returns c =
     let p = passed (first_no (q_time t ∷ q_on g rs ∷ q_inside g t rs ∷ [])) (place g rs) c.in_ok-place.place yes in
     let h = c.new.ensures in
     let below = ap (λ (z : Rows). z.rows.now) h.0 ∙ c.rows.ensures.rows in
-    let windows = held_windows rs _ (place g rs) _ (stood (row g rs) (Called t)) _ _ below (h.1 ∙ p.1) (h.2 ∙ x) (h.3 ∙ x) in
+    let windows = held_windows rs _ (place g rs) _ (stood (row g rs) (Called t)) _ below (h.1 ∙ p.1) (h.2 ∙ same_window _ (window t t) x x) in
     let told = held_listed k (kept_by_sheet s) (few s) g t room p.0 _ _ windows (ap numbers_of below) in
     let said = c.order.ensures.answer ∙ ap answer told in
     let left = c.order.ensures.list ∙ ap (λ o. leaves o before) told in
