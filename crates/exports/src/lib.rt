@@ -17,6 +17,7 @@ use reckoning::spans::spans;
 use theory::Span;
 
 /// How a call ended: how many entries it wrote, and the number of its refusal, 0 if it was taken.
+// The C interface has no `Result`: a refusal crosses as its number beside the count.
 #[repr(C)]
 #[derive(Clone, Copy)]
 pub struct Outcome {
@@ -24,15 +25,17 @@ pub struct Outcome {
     pub refusal: u8,
 }
 
-fn ended(res: Result<usize, Refusal>) -> Outcome
-    ensures { result ≡ outcome (by_number res) }
-{
-    match res {
-        Ok(count) => Outcome { count, refusal: 0 },
-        Err(refusal) => Outcome {
-            count: 0,
-            refusal: refusal.number(),
-        },
+impl From<Result<usize, Refusal>> for Outcome {
+    ghost from_gives = { λ res out. out ≡ outcome (by_number res) };
+
+    fn from(res: Result<usize, Refusal>) -> Outcome {
+        match res {
+            Ok(count) => Outcome { count, refusal: 0 },
+            Err(refusal) => Outcome {
+                count: 0,
+                refusal: refusal.number(),
+            },
+        }
     }
 }
 
@@ -42,7 +45,7 @@ pub extern "C" fn starter_spans(strip: &[u8], pace: u16, list: &mut [Span]) -> O
     ensures answer { result ≡ outcome (answer (spans_told pace (records strip.now) (length list.old))) }
     ensures list { list.new ≡ leaves (spans_told pace (records strip.now) (length list.old)) list.old }
 {
-    ended(spans(&Strip { bytes: strip }, pace, list))
+    spans(&Strip { bytes: strip }, pace, list).into()
 }
 
 /// Writes the written order of a strip.
@@ -51,5 +54,5 @@ pub extern "C" fn starter_order(strip: &[u8], pace: u16, list: &mut [Start]) -> 
     ensures answer { result ≡ outcome (answer (order_told pace (records strip.now) (numbers_of strip.now) (length list.old))) }
     ensures list { list.new ≡ leaves (order_told pace (records strip.now) (numbers_of strip.now) (length list.old)) list.old }
 {
-    ended(order(&Strip { bytes: strip }, pace, list))
+    order(&Strip { bytes: strip }, pace, list).into()
 }

@@ -1,13 +1,6 @@
--- That the times of a field are told when one place is held to a window of two signed 32-bit times.
-use Rattle.std.specs.Prelude.{ℕ, zero, suc, ◌<◌, List, [], ◌∷◌, ℤ, pos, negsuc, slice_index_or, slice_set}
-use Rattle.std.proofs.Common.{arith}
-use Rattle.std.specs.Int.Signed.{mag}
-use Rattle.std.proofs.lemmas.Int.{ints}
+-- That the times of a field are told when one place is held to another window whose times are.
+use Rattle.std.specs.Prelude.{ℕ, zero, suc, List, [], ◌∷◌, slice_index_or, slice_set}
 use Rattle.field.specs.Windows.{Window, outside, early_at, late_at, Told}
-
-fits_told : (z : ℤ) → mag z < 2147483648 → Told z
-fits_told (pos n) f = (omega (arith, ints), omega (arith, ints))
-fits_told (negsuc n) f = (omega (arith, ints), omega (arith, ints))
 
 -- what holds of the new element and of the old ones holds of a list in which one is set
 set_keeps : {X : Type 0} (P : X → Type 0) (xs : List X) (i : ℕ) (y d : X) → P y → ((k : ℕ) → P (slice_index_or xs k d)) → (k : ℕ) → P (slice_index_or (slice_set xs i y) k d)

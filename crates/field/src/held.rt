@@ -18,6 +18,7 @@ pub struct Held<F> {
 
 impl<F> Held<F> {
     /// The field `below` with the window of `place` held to `early`..`late`.
+    // Two times of 32 bits and no `Window`, whose ends may be further than a field may tell.
     pub fn new(below: F, place: usize, early: i32, late: i32) -> Held<F>
         ensures { (result.below ≡ below) × (result.place ≡ place) × (result.window ≡ window early late) }
     {

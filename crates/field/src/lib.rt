@@ -2,7 +2,7 @@
 //!
 //! A field means a list of windows, counted by place from 0. `Field` is the interface, `Numbered`
 //! adds group numbers, `Strip` reads a field from bytes, and `Reversed` and `Held` are
-//! layers that stand on any field, one that is only lent too.
+//! layers that stand on any field, owned or lent.
 
 #![tactic(auto)]
 

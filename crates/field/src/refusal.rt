@@ -3,10 +3,11 @@
 ghost use Rattle.field.specs.Refusals.{number_of, words_of};
 ghost use Rattle.std.specs.Prelude.{◌≡◌, ◌++◌, Some, codes, decimal};
 
+use std::error::Error;
 use std::fmt;
 
 /// Why a call is refused: each case is the question that was answered no, and its number.
-#[derive(Clone, Copy)]
+#[derive(Clone, Copy, Debug, PartialEq, Eq)]
 pub enum Refusal {
     /// Is no trial open?
     TrialOpen = 1,
@@ -75,3 +76,5 @@ impl fmt::Display for Refusal {
         write!(f, "{number}: {words}")
     }
 }
+
+impl Error for Refusal {}

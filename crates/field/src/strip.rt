@@ -7,7 +7,7 @@ use crate::interface::{Field, Numbered};
 use crate::window::Window;
 
 /// How many bytes a record has.
-const RECORD: usize = 10;
+pub const RECORD: usize = 10;
 
 /// Ten-byte records, high byte first: number (16 bits), early and late (signed, 32 bits). A shorter
 /// tail is no record.

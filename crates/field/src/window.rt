@@ -4,7 +4,7 @@ ghost use Rattle.field.specs.Windows.{outside, window};
 ghost use Rattle.std.specs.Prelude.{◌≡◌};
 
 /// An early and a late start, both included, in seconds from the announced first start.
-#[derive(Clone, Copy, Default)]
+#[derive(Clone, Copy, Debug, Default, PartialEq, Eq)]
 pub struct Window {
     pub early: i64,
     pub late: i64,

@@ -1,19 +1,19 @@
 -- What the questions say of a call's answer.
-use Rattle.std.proofs.Common.{◌≡◌, ℕ, ◌+◌, ◌<◌, ◌≤◌, Bool, true, false, leb, List, [], ◌∷◌, ◌++◌, length, get_or, take, drop, set, pos, is_some, Some, None, Ok, Err, Result, sym, refl, ap, ◌∙◌, subst, arith}
+use Rattle.std.proofs.Common.{◌≡◌, ℕ, ◌+◌, ◌<◌, ◌≤◌, Bool, true, false, leb, List, [], ◌∷◌, ◌++◌, length, get_or, take, drop, set, pos, is_some, Some, None, Ok, Err, Option, Result, ◌≤ℤ◌, sym, refl, ap, ◌∙◌, subst, arith}
 use Rattle.std.specs.List.{AllByRecursion}
 use Rattle.std.proofs.lemmas.Int.{ints}
-use Rattle.std.proofs.lemmas.List.{take_more, drop_more, set_at, length-take-le, append_assoc, take_all}
-use Rattle.std.proofs.lemmas.Bool.{and_parts, leb-true, le-leb}
+use Rattle.std.proofs.lemmas.List.{take_more, drop_more, set_at, length-take-le, append_assoc}
+use Rattle.std.proofs.lemmas.Bool.{and_parts, leb-true}
 use Rattle.field.specs.declared.window.Window.{Window}
 use Rattle.field.specs.declared.refusal.Refusal.{Refusal}
-use Rattle.field.specs.declared.refusal.Refusal.TheVariants.{NoOrder}
-use Rattle.field.proofs.InARow.{all_yes, no_among, no_stays, no_later}
-use Rattle.field.specs.Refusals.{number_of, by_number, question, first_no}
+use Rattle.field.proofs.InARow.{all_yes, no_among, none_both}
+use Rattle.field.specs.Refusals.{number_of, question}
 use Rattle.theory.specs.declared.span.Span.{Span}
+use Rattle.theory.specs.Orders.{Possible}
 use Rattle.theory.specs.Method.{forbidden}
 use Rattle.theory.proofs.Deciding.{possible_some, some_possible}
 use Rattle.reckoning.specs.Questions.{questions, refused, asked}
-use Rattle.reckoning.specs.Lists.{decided, mapped, told, answer, leaves, Thirteen}
+use Rattle.reckoning.specs.Lists.{decided, Thirteen}
 use Rattle.reckoning.specs.Values.{Timed, Pace}
 use Rattle.reckoning.proofs.Every.{timed_all}
 
@@ -33,64 +33,46 @@ not_13 : (p : ℕ) (ws : List Window) (room n : ℕ) → asked p ws room ≡ Som
 not_13 p ws room n e =
     no_among (λ k. k < 13) (questions p ws ++ question 12 (leb (length ws) room) ∷ []) n (omega arith, (omega arith, (omega arith, (omega arith, (omega arith, tt))))) e
 
--- ---- each way out
+pub asked_passed : (p : ℕ) (ws : List Window) (room : ℕ) → asked p ws room ≡ None → Pace (pos p) × (length ws ≤ 64) × AllByRecursion Timed ws
+asked_passed p ws room e = passed p ws (none_both (questions p ws) (question 12 (leb (length ws) room) ∷ []) e).0
 
-module _ {X : Type 0} (p : ℕ) (ws : List Window) (room : ℕ) (g : List Span → List X) where
-  -- what a call owes: its answer, its list, and number 13 in the subject's words
-  pub record Owed (r : Result ℕ Refusal) (before exit : List X) : Type 0 where
-    pub answer : by_number r ≡ answer (told p ws room g)
-    pub list : exit ≡ leaves (told p ws room g) before
-    pub thirteen : Thirteen p ws room r
+pub room_passed : (p : ℕ) (ws : List Window) (room : ℕ) → asked p ws room ≡ None → length ws ≤ room
+room_passed p ws room e =
+    let last = question 12 (leb (length ws) room) ∷ [] in
+    leb-true (length ws) room (all_yes last (none_both (questions p ws) last e).1).0
 
-  refusing : (q : Refusal) → asked p ws room ≡ Some (number_of q) → (before : List X) → Owed (Err q) before before
-  refusing q e before =
-      let d : told p ws room g ≡ Err (number_of q) = ap (λ a. decided a (mapped g (forbidden (pos p) ws))) e in
-      let n = not_13 p ws room (number_of q) e in
-      record {
-        answer = sym (ap answer d);
-        list = sym (ap (λ o. leaves o before) d);
-        thirteen = record { only = λ h. let z : number_of q ≡ 13 = cc in absurd (omega arith); always = λ h k. let z : ◌≡◌ {A = ℕ} 0 1 = cc in absurd (omega arith) };
-      }
+-- ---- number 13
 
-  -- by a question of the field
-  pub owed_refused : (r : Result ℕ Refusal) (q : Refusal) → r ≡ Err q → refused p ws ≡ Some (number_of q) → (before : List X) → Owed r before before
-  owed_refused r q i e before = subst (λ z. Owed z before before) (sym i) (refusing q (no_stays (questions p ws) (question 12 (leb (length ws) room) ∷ []) (number_of q) e) before)
+-- where it comes, all was asked and there is no order
+at_13 : {X : Type 0} (a : Option ℕ) (o : Option X) (n : ℕ) → decided a o ≡ Err n → ((m : ℕ) → a ≡ Some m → m < 13) → n ≡ 13 → (a ≡ None) × (o ≡ None)
+at_13 (Some m) o n e h k = let z : m ≡ n = cc in let l = h m refl in absurd (omega (arith, l))
+at_13 None None n e h k = (refl, refl)
+at_13 {X} None (Some x) n e h k = absurd (let z : ◌≡◌ {A = ℕ} 0 1 = cc in omega arith)
 
-  asked_none : refused p ws ≡ None → length ws ≤ room → asked p ws room ≡ None
-  asked_none e h =
-      let more = question 12 (leb (length ws) room) ∷ [] in
-      let k : first_no more ≡ None = ap (λ b. first_no (question 12 b ∷ [])) (le-leb (length ws) room h) in
-      no_later (questions p ws) more e ∙ k
+pub is_13 : {X : Type 0} (a : Option ℕ) (o : Option X) (n : ℕ) → decided a o ≡ Err n → a ≡ None → n ≡ 13
+is_13 (Some m) o n e k = absurd (let z : ◌≡◌ {A = ℕ} 0 1 = cc in omega arith)
+is_13 None None n e k = cc
+is_13 None (Some x) n e k = absurd (let z : ◌≡◌ {A = ℕ} 0 1 = cc in omega arith)
 
-  -- for want of an order
-  pub owed_none : refused p ws ≡ None → length ws ≤ room → forbidden (pos p) ws ≡ None → (before : List X) → Owed (Err NoOrder) before before
-  owed_none e h f before =
-      let a = asked_none e h in
-      let d : told p ws room g ≡ Err 13 = ap (λ z. decided z (mapped g (forbidden (pos p) ws))) a ∙ ap (λ z. decided None (mapped g z)) f in
-      let k = passed p ws e in
-      record {
-        answer = sym (ap answer d);
-        list = sym (ap (λ o. leaves o before) d);
-        thirteen = record {
-          only = λ _. (a, (λ w. let s = possible_some (pos p) ws k.0.0 w in let y : ◌≡◌ {A = Bool} false true = sym (ap is_some f) ∙ s in absurd (let z : ◌≡◌ {A = ℕ} 0 1 = cc in omega arith)));
-          always = λ _ _. refl;
-        };
-      }
+module _ (p : ℕ) (ws : List Window) where
+  pub impossible : pos 1 ≤ℤ pos p → forbidden (pos p) ws ≡ None → Possible (pos p) ws → ⊥
+  impossible h f w = let y : ◌≡◌ {A = Bool} false true = sym (ap is_some f) ∙ possible_some (pos p) ws h w in let z : ◌≡◌ {A = ℕ} 0 1 = cc in absurd (omega arith)
 
-  -- not at all
-  pub owed_some : refused p ws ≡ None → length ws ≤ room → (f : List Span) → forbidden (pos p) ws ≡ Some f → (n : ℕ) (before exit : List X) → n ≡ length (g f) → exit ≡ g f ++ drop (length (g f)) before → Owed (Ok n) before exit
-  owed_some e h f q n before exit c l =
-      let a = asked_none e h in
-      let d : told p ws room g ≡ Ok (g f) = ap (λ z. decided z (mapped g (forbidden (pos p) ws))) a ∙ ap (λ z. decided None (mapped g z)) q in
-      let k = passed p ws e in
-      record {
-        answer = ap Ok c ∙ sym (ap answer d);
-        list = l ∙ sym (ap (λ o. leaves o before) d);
-        thirteen = record {
-          only = λ z. let y : ◌≡◌ {A = ℕ} 0 1 = cc in absurd (omega arith);
-          always = λ _ z. absurd (z (some_possible (pos p) ws k.0.0 (ap is_some q)));
-        };
-      }
+  pub no_order : (a : Option ℕ) (n : ℕ) → (a ≡ None → pos 1 ≤ℤ pos p) → ((m : ℕ) → a ≡ Some m → m < 13) → decided a (forbidden (pos p) ws) ≡ Err n → n ≡ 13 → (a ≡ None) × (Possible (pos p) ws → ⊥)
+  no_order a n h l e k = let z = at_13 a (forbidden (pos p) ws) n e l k in (z.0, impossible (h z.0) z.1)
+
+  pub thirteen_err : (room : ℕ) (r : Result ℕ Refusal) (q : Refusal) → r ≡ Err q → decided (asked p ws room) (forbidden (pos p) ws) ≡ Err (number_of q) → Thirteen p ws room r
+  thirteen_err room r q i e =
+      subst (Thirteen p ws room) (sym i) (record {
+        only = λ h. let k : number_of q ≡ 13 = cc in no_order (asked p ws room) (number_of q) (λ z. (asked_passed p ws room z).0.0) (not_13 p ws room) e k;
+        always = λ h _. ap Err (is_13 (asked p ws room) (forbidden (pos p) ws) (number_of q) e h);
+      })
+
+  pub thirteen_ok : (room n : ℕ) (f : List Span) → asked p ws room ≡ None → forbidden (pos p) ws ≡ Some f → Thirteen p ws room (Ok n)
+  thirteen_ok room n f e k = record {
+    only = λ z. let y : ◌≡◌ {A = ℕ} 0 1 = cc in absurd (omega arith);
+    always = λ _ z. absurd (z (some_possible (pos p) ws (asked_passed p ws room e).0.0 (ap is_some k)));
+  }
 
 -- ---- a list that is filled from its beginning
 
@@ -100,8 +82,3 @@ filled_more xs ys before i d l m e =
     ap (λ z. set z i (get_or xs i d)) (e ∙ ap (λ z. take i xs ++ z) (drop_more before i d m))
     ∙ set_at (take i xs) (get_or before i d) (drop (i + 1) before) (get_or xs i d) i k
     ∙ sym (ap (λ z. z ++ drop (i + 1) before) (take_more xs i d l) ∙ append_assoc (take i xs) (get_or xs i d ∷ []) (drop (i + 1) before))
-
-pub filled_all : {X : Type 0} (xs before : List X) (i n : ℕ) → length xs ≡ n → i ≤ n → n ≤ i → take i xs ++ drop i before ≡ xs ++ drop n before
-filled_all xs before i n e a b =
-    let z : i ≡ n = omega arith in
-    ap (λ y. y ++ drop i before) (take_all i xs (omega (arith, e))) ∙ ap (λ k. xs ++ drop k before) z

@@ -1,11 +1,10 @@
 -- The bisection for the first start of a place.
-use Rattle.std.proofs.Common.{◌≡◌, ℕ, zero, suc, ◌+◌, ◌-◌, ◌<◌, ◌≤◌, true, false, ◌⊎◌, List, [], ◌∷◌, length, get_or, take, set, ℤ, pos, negsuc, ◌+ℤ◌, ◌≤ℤ◌, ◌<ℤ◌, is_some, sym, refl, ap, ◌∙◌, subst, inl, inr, arith}
-use lib.Signed.{quot_z}
+use Rattle.std.proofs.Common.{◌≡◌, ℕ, ◌+◌, ◌-◌, ◌<◌, true, false, ◌⊎◌, List, [], ◌∷◌, ◌++◌, length, take, ℤ, pos, negsuc, ◌+ℤ◌, ◌≤ℤ◌, ◌<ℤ◌, is_some, sym, ap, ◌∙◌, subst, inl, inr, arith}
 use borrow.Author.Differences.{up, down}
 use Rattle.std.specs.List.{AllByRecursion}
 use Rattle.std.proofs.lemmas.Int.{ints, by_lt_z}
-use Rattle.std.proofs.ByRecursion.{All-set, All-get_or}
-use Rattle.std.proofs.lemmas.List.{get_or-take, set-get_or, length-take-le, length-take, length-set}
+use Rattle.std.proofs.ByRecursion.{All-get_or}
+use Rattle.std.proofs.lemmas.List.{set-get_or, get_or-set_same, get_or-set_other, take_more, length-set}
 use Rattle.field.specs.declared.window.Window.{Window}
 use Rattle.field.specs.Windows.{window, outside}
 use Rattle.theory.specs.Orders.{Possible, window_at}
@@ -82,33 +81,14 @@ unfolding width
 narrower low high a b h k l (inl m) = omega (arith, ints)
 narrower low high a b h k l (inr m) = omega (arith, ints)
 
-pub half : (z : ℤ) → pos 1 ≤ℤ z → (pos 0 ≤ℤ quot_z z (pos 2)) × (quot_z z (pos 2) <ℤ z)
-half (pos n) h = (omega (arith, ints), omega (arith, ints))
-half (negsuc n) h = absurd (omega (arith, ints))
+-- ---- the windows of which one is cut
 
--- ---- the windows that are read
+pub cut_here : (ws : List Window) (i at : ℕ) (x : ℤ) → i < length ws → at ≡ i → window (window_at ws at).early x ≡ window_at (cut ws i x) at
+cut_here ws i at x h e = ap (λ k. window (window_at ws k).early x) e ∙ sym (get_or-set_same ws i (window (window_at ws i).early x) outside h) ∙ ap (window_at (cut ws i x)) (sym e)
 
-take_set_in : {X : Type 0} (n : ℕ) (xs : List X) (i : ℕ) (y : X) → i < n → take n (set xs i y) ≡ set (take n xs) i y
-take_set_in zero xs i y h = absurd (omega arith)
-take_set_in (suc n) [] i y h = refl
-take_set_in (suc n) (x ∷ xs) zero y h = refl
-take_set_in (suc n) (x ∷ xs) (suc i) y h = ap (λ z. x ∷ z) (take_set_in n xs i y (omega arith))
+pub cut_other : (ws : List Window) (i at : ℕ) (x : ℤ) → (at ≡ i → ⊥) → window_at ws at ≡ window_at (cut ws i x) at
+cut_other ws i at x n = sym (get_or-set_other ws i at (window (window_at ws i).early x) outside n)
 
-pub cut_is : (xs : List Window) (n i : ℕ) (x : ℤ) (w : Window) → i < n → w ≡ window (get_or xs i outside).early x → take n (set xs i w) ≡ cut (take n xs) i x
-cut_is xs n i x w h e = take_set_in n xs i w h ∙ ap (set (take n xs) i) (e ∙ ap (λ v. window v.early x) (sym (get_or-take n xs i outside h)))
-
-pub inside : {X : Type 0} (xs : List X) (n i : ℕ) → n ≤ length xs → i < n → i < length (take n xs)
-inside xs n i h l = let e = length-take-le n xs h in omega (arith, e)
-
-pub within : {X : Type 0} (xs : List X) (n i : ℕ) → i < length (take n xs) → i < n
-within xs n i h = let e = length-take n xs in omega (arith, e)
-
-pub cut_few : (xs : List Window) (n i : ℕ) (x : ℤ) → n ≤ length xs → n ≤ 64 → length (cut (take n xs) i x) ≤ 64
-cut_few xs n i x h l =
-    let ws = take n xs in
-    let e = length-set ws i (window (window_at ws i).early x) in
-    let d = length-take-le n xs h in
-    omega (arith, e, d)
-
-pub cut_timed : (ws : List Window) (i : ℕ) (x : ℤ) → AllByRecursion Timed ws → i < length ws → negsuc 86399 ≤ℤ x → x ≤ℤ pos 86400 → AllByRecursion Timed (cut ws i x)
-cut_timed ws i x a l h k = let t = All-get_or Timed ws i outside l a in All-set Timed ws i (window (window_at ws i).early x) (t.0, t.1, h, k) a
+pub cut_more : (ws vs us : List Window) (i at : ℕ) (x : ℤ) (w : Window) → at < length ws → vs ≡ take at (cut ws i x) → us ≡ vs ++ w ∷ [] → w ≡ window_at (cut ws i x) at → us ≡ take (at + 1) (cut ws i x)
+cut_more ws vs us i at x w h e d q =
+    d ∙ ap (λ z. z ++ w ∷ []) e ∙ ap (λ z. take at (cut ws i x) ++ z ∷ []) q ∙ sym (take_more (cut ws i x) at outside (subst (λ n. at < n) (sym (length-set ws i (window (window_at ws i).early x))) h))

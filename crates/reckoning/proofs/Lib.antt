@@ -6,6 +6,7 @@ pub mod Turn
 pub mod Every
 pub mod Asked
 pub mod Unused
+pub mod GoesFirst
 pub mod Playing
 pub mod Listed
 pub mod Bisecting

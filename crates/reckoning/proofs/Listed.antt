@@ -19,11 +19,7 @@ use Rattle.theory.proofs.Complete.{Among, all_among, chosen_among, start_by_plac
 use Rattle.reckoning.specs.declared.start.Start.{Start}
 use Rattle.theory.proofs.Closed.{least_ge}
 use Rattle.reckoning.specs.Order.{played, start_of, Ascending, Once, Plays}
-use Rattle.reckoning.proofs.Playing.{length_by_place}
-
-all_without : (P : Group → Type 0) (i : ℕ) (gs : List Group) → AllByRecursion P gs → AllByRecursion P (without i gs)
-unfolding without
-all_without P i gs a = all_kept_by (λ g. not (eqb g.place i)) P gs a
+use Rattle.reckoning.proofs.Playing.{length_by_place, all_without}
 
 without_differs : (i : ℕ) (gs : List Group) → AllByRecursion (λ g. g.place ≡ i → ⊥) (without i gs)
 unfolding without
@@ -197,6 +193,16 @@ played_is p f ws = go (by_place 0 ws) (length_by_place 0 ws) (by_place_differ 0 
   where
     go : (gs : List Group) → length gs ≡ length ws → Differ gs → AllByRecursion (λ g. g.place < length ws) gs → (length (play_all p f gs) ≡ length ws) × Distinct (play_all p f gs) × AllByRecursion (λ s. s.place < length ws) (play_all p f gs)
     go gs e d a = started p f gs (length ws) e d a
+
+-- ---- what the code reads
+
+pub list_read : (S : Played → Start) (W ss ts : List Played) (before exit : List Start) (n : ℕ) → n ≡ length ss → ts ≡ ss → ss ≡ W → exit ≡ map S ts ++ drop (length ts) before → (n ≡ length (map S W)) × (exit ≡ map S W ++ drop (length (map S W)) before)
+list_read S W ss ts before exit n a b d e =
+    let k = length-map W S in
+    (a ∙ ap length d ∙ sym k, e ∙ ap (λ v. map S v ++ drop (length v) before) (b ∙ d) ∙ ap (λ j. map S W ++ drop j before) (sym k))
+
+pub played_fits : (p : ℤ) (f : List Span) (ws : List Window) (ss ts : List Played) (room : ℕ) → ts ≡ ss → ss ≡ played p f ws → length ws ≤ room → length ts ≤ room
+played_fits p f ws ss ts room d e h = let k = played_is p f ws in omega (arith, ap length d, ap length e, k.0, h)
 
 pub plays : (p : ℤ) (ws : List Window) (ns : List ℕ) (f : List Span) → pos 1 ≤ℤ p → forbidden p ws ≡ Some f → Plays p ws (map (start_of ns) (played p f ws))
 unfolding written

@@ -1,6 +1,7 @@
 -- One pass over spans whose ends fall finds the time outside.
-use Rattle.std.proofs.Common.{◌≡◌, ℕ, ◌+◌, ◌-◌, ◌<◌, ◌≤◌, Bool, true, false, cond, ◌⊎◌, List, [], ◌∷◌, ◌++◌, reverse, length, get_or, take, drop, ℤ, pos, ◌+ℤ◌, ◌-ℤ◌, ◌≤ℤ◌, ◌<ℤ◌, sym, refl, ap, ◌∙◌, subst, inl, inr, ⊎_elim, arith}
+use Rattle.std.proofs.Common.{◌≡◌, ℕ, ◌+◌, ◌<◌, Bool, true, false, cond, ◌⊎◌, List, [], ◌∷◌, ◌++◌, reverse, length, get_or, take, drop, ℤ, pos, ◌+ℤ◌, ◌-ℤ◌, ◌≤ℤ◌, ◌<ℤ◌, sym, refl, ap, ◌∙◌, subst, inl, inr, ⊎_elim, arith}
 use Rattle.std.specs.List.{AllByRecursion}
+use Rattle.std.proofs.ByRecursion.{All-append}
 use Rattle.std.proofs.lemmas.Int.{ints}
 use Rattle.std.proofs.lemmas.List.{take_more, reverse-append, take-append-drop}
 use Rattle.std.proofs.lemmas.Bool.{cond_both}
@@ -18,6 +19,17 @@ falling_take xs i h =
     let e = reverse-append (take i xs) (drop i xs) in
     let d = ap reverse (take-append-drop i xs) in
     falling_right (reverse (drop i xs)) (reverse (take i xs)) (subst Falling (sym d ∙ e) h)
+
+pub all_reverse : {X : Type 0} (P : X → Type 0) (xs : List X) → AllByRecursion P xs → AllByRecursion P (reverse xs)
+all_reverse P [] a = tt
+all_reverse P (x ∷ xs) a = subst (AllByRecursion P) (sym (reverse-append (x ∷ []) xs)) (All-append P (reverse xs) (x ∷ []) (all_reverse P xs a.1) (a.0, tt))
+
+pub all_front : {X : Type 0} (P : X → Type 0) (xs : List X) (x : X) → AllByRecursion P (xs ++ x ∷ []) → AllByRecursion P xs × P x
+all_front P [] x a = (tt, a.0)
+all_front P (y ∷ xs) x a = let r = all_front P xs x a.1 in ((a.0, r.0), r.1)
+
+pub falling_push : (xs : List Span) (s : Span) → AllByRecursion (λ o. s.last <ℤ o.last) xs → Falling (reverse xs) → Falling (reverse (xs ++ s ∷ []))
+falling_push xs s a h = subst Falling (sym (reverse-append xs (s ∷ []))) (all_reverse (λ o. s.last <ℤ o.last) xs a, h)
 
 pub reverse_more : (xs : List Span) (i : ℕ) (d : Span) → i < length xs → reverse (take (i + 1) xs) ≡ get_or xs i d ∷ reverse (take i xs)
 reverse_more xs i d h = ap reverse (take_more xs i d h) ∙ reverse-append (take i xs) (get_or xs i d ∷ [])
@@ -87,11 +99,6 @@ least_first s f t h = go (covers s t) refl
         let b = least_least f t (least_outside (s ∷ f) t) k o.1 in
         omega (arith, ints)
 
-pub least_less : (xs : List Span) (i : ℕ) (d : Span) (t : ℤ) → i < length xs → Falling (reverse xs) → least_outside (reverse (take (i + 1) xs)) t ≡ least_outside (reverse (take i xs)) (cond (covers (get_or xs i d) t) ((get_or xs i d).last +ℤ pos 1) t)
-least_less xs i d t l h =
-    let e = reverse_more xs i d l in
-    ap (λ f. least_outside f t) e ∙ least_first (get_or xs i d) (reverse (take i xs)) t (subst Falling e (falling_take xs (i + 1) h))
-
 pub greatest_none : (t : ℤ) → greatest_outside [] t ≡ t
 unfolding greatest_outside
 greatest_none t = refl
@@ -103,12 +110,15 @@ least_none t = refl
 pub greatest_step : (xs : List Span) (i : ℕ) (d : Span) (t u r : ℤ) → i < length xs → Falling (reverse xs) → u ≡ greatest_outside (reverse (take i xs)) t → r ≡ cond (covers (get_or xs i d) u) ((get_or xs i d).first -ℤ pos 1) u → r ≡ greatest_outside (reverse (take (i + 1) xs)) t
 greatest_step xs i d t u r l h e q = q ∙ ap (λ z. cond (covers (get_or xs i d) z) ((get_or xs i d).first -ℤ pos 1) z) e ∙ sym (greatest_more xs i d t l h)
 
-pub least_step : (xs : List Span) (i : ℕ) (d : Span) (w u r : ℤ) → 0 < i → i ≤ length xs → Falling (reverse xs) → least_outside (reverse (take i xs)) u ≡ w → r ≡ cond (covers (get_or xs (i - 1) d) u) ((get_or xs (i - 1) d).last +ℤ pos 1) u → least_outside (reverse (take (i - 1) xs)) r ≡ w
-least_step xs i d w u r o l h e q =
-    let z : (i - 1) + 1 ≡ i = omega arith in
-    ap (least_outside (reverse (take (i - 1) xs))) q ∙ sym (least_less xs (i - 1) d u (omega arith) h) ∙ ap (λ k. least_outside (reverse (take k xs)) u) z ∙ e
+-- one step from the newest span on
+pub least_step : (xs ys : List Span) (s : Span) (w u r : ℤ) → xs ≡ ys ++ s ∷ [] → Falling (reverse xs) → least_outside (reverse xs) u ≡ w → r ≡ cond (covers s u) (s.last +ℤ pos 1) u → least_outside (reverse ys) r ≡ w
+least_step xs ys s w u r d h e q =
+    let z = ap reverse d ∙ reverse-append ys (s ∷ []) in
+    ap (least_outside (reverse ys)) q ∙ sym (least_first s (reverse ys) u (subst Falling z h)) ∙ ap (λ f. least_outside f u) (sym z) ∙ e
 
-pub least_end : (xs : List Span) (i : ℕ) (w u : ℤ) → i ≤ 0 → least_outside (reverse (take i xs)) u ≡ w → u ≡ w
-least_end xs i w u h e =
-    let z : i ≡ 0 = omega arith in
-    sym (least_none u) ∙ sym (ap (λ k. least_outside (reverse (take k xs)) u) z) ∙ e
+pub fall_on : (xs ys : List Span) (s : Span) → xs ≡ ys ++ s ∷ [] → Falling (reverse xs) → Falling (reverse ys)
+fall_on xs ys s d h = (subst Falling (ap reverse d ∙ reverse-append ys (s ∷ [])) h).1
+
+pub least_end : (xs : List Span) (w u : ℤ) → length xs ≡ 0 → least_outside (reverse xs) u ≡ w → u ≡ w
+least_end [] w u h e = sym (least_none u) ∙ e
+least_end (x ∷ xs) w u h e = absurd (omega arith)

@@ -1,25 +1,22 @@
 -- What the questions of a place say, in a field and in the reversed one.
-use Rattle.std.proofs.Common.{◌≡◌, ℕ, ◌<◌, ◌≤◌, Bool, true, false, ◌&&◌, ltb, leb, List, [], ◌∷◌, map, length, ℤ, pos, negsuc, ◌-ℤ◌, neg_ℤ, ◌≤ℤ◌, is_some, Some, None, Ok, sym, refl, ap, ◌∙◌, subst, inl, inr, arith, w64, to_z, of_z}
+use Rattle.std.proofs.Common.{◌≡◌, ℕ, ◌<◌, Bool, true, false, ◌&&◌, ltb, leb, List, [], ◌∷◌, map, length, ℤ, pos, negsuc, ◌-ℤ◌, neg_ℤ, ◌≤ℤ◌, None, Ok, sym, refl, ap, ◌∙◌, subst, inl, inr, arith, w64, to_z, of_z}
 use Rattle.std.proofs.lemmas.Int.{ints}
 use Rattle.std.proofs.ByRecursion.{All-get_or}
 use Rattle.std.proofs.lemmas.List.{length-map}
-use Rattle.std.proofs.lemmas.Bool.{le-ltb, lt-ltb, ltb-true}
+use Rattle.std.proofs.lemmas.Bool.{lt-ltb, ltb-true}
 use Rattle.field.specs.declared.window.Window.{Window}
 use Rattle.field.specs.declared.refusal.Refusal.{Refusal}
-use Rattle.field.specs.declared.refusal.Refusal.TheVariants.{Unknown, NoOrder}
 use Rattle.field.specs.Refusals.{number_of, Question, question, first_no}
 use Rattle.field.specs.Reversed.{turned}
 use Rattle.field.specs.Windows.{outside}
-use Rattle.theory.specs.Orders.{window_at}
 use Rattle.theory.specs.Method.{forbidden}
 use Rattle.theory.specs.Theorem.{First, Last}
-use Rattle.theory.proofs.Deciding.{possible_some, some_possible}
 use Rattle.theory.proofs.Turned.{turned_order, first_last}
 use Rattle.reckoning.specs.Questions.{every, in_time, timed, upright, questions, refused}
 use Rattle.reckoning.specs.Range.{placed, Refused, FirstTold}
 use Rattle.reckoning.specs.Values.{Timed}
-use Rattle.field.proofs.InARow.{no_stays, no_later, none_both}
-use Rattle.reckoning.proofs.Asked.{passed}
+use Rattle.field.proofs.InARow.{no_later, none_both}
+use Rattle.reckoning.proofs.Asked.{passed, impossible}
 
 -- ---- the ways out of the first start
 
@@ -29,23 +26,8 @@ module _ (p : ℕ) (ws : List Window) (i : ℕ) where
       let k : first_no (question 8 (ltb i (length ws)) ∷ []) ≡ None = ap (λ b. first_no (question 8 b ∷ [])) (lt-ltb i (length ws) h) in
       no_later (questions p ws) (question 8 (ltb i (length ws)) ∷ []) e ∙ k
 
-  pub by_question : (q : Refusal) → refused p ws ≡ Some (number_of q) → Refused p ws i q
-  by_question q e = inl (no_stays (questions p ws) (question 8 (ltb i (length ws)) ∷ []) (number_of q) e)
-
-  pub by_place : refused p ws ≡ None → length ws ≤ i → Refused p ws i Unknown
-  by_place e h =
-      let k : first_no (question 8 (ltb i (length ws)) ∷ []) ≡ Some 8 = ap (λ b. first_no (question 8 b ∷ [])) (le-ltb i (length ws) h) in
-      inl (no_later (questions p ws) (question 8 (ltb i (length ws)) ∷ []) e ∙ k)
-
-  pub by_order : refused p ws ≡ None → i < length ws → forbidden (pos p) ws ≡ None → Refused p ws i NoOrder
-  by_order e h f =
-      inr (
-        placed_none e h,
-        refl,
-        (λ w.
-            let y : ◌≡◌ {A = Bool} false true = sym (ap is_some f) ∙ possible_some (pos p) ws (passed p ws e).0.0 w in
-            absurd (let z : ◌≡◌ {A = ℕ} 0 1 = cc in omega arith)),
-      )
+  pub by_order : (q : Refusal) → number_of q ≡ 13 → refused p ws ≡ None → i < length ws → forbidden (pos p) ws ≡ None → Refused p ws i q
+  by_order q k e h f = inr (placed_none e h, k, impossible p ws (passed p ws e).0.0 f)
 
   pub passed_place : placed p ws i ≡ None → (refused p ws ≡ None) × (i < length ws)
   passed_place e = let k = none_both (questions p ws) (question 8 (ltb i (length ws)) ∷ []) e in (k.0, inside (ltb i (length ws)) refl k.1)
@@ -62,9 +44,6 @@ module _ (p : ℕ) (ws : List Window) (i : ℕ) where
       let w = h.1.0.1.within i k.1 in
       let e = h.1.0.2 in
       (omega (arith, ints, t.0, w.from, e), omega (arith, ints, t.3, w.to, e))
-
-pub upright_at : (p : ℤ) (ws : List Window) (i : ℕ) → pos 1 ≤ℤ p → i < length ws → is_some (forbidden p ws) ≡ true → (window_at ws i).early ≤ℤ (window_at ws i).late
-upright_at p ws i h l s = let w = (some_possible p ws h s).1.within i l in omega (arith, ints, w.from, w.to)
 
 -- ---- the reversed field
 
@@ -114,6 +93,3 @@ module _ (p : ℕ) (ws : List Window) (i : ℕ) where
 
 pub neg_real : (x : ℤ) → negsuc 86399 ≤ℤ x → x ≤ℤ pos 86400 → to_z w64 (of_z w64 (pos 0 -ℤ to_z w64 (of_z w64 x))) ≡ neg_ℤ x
 neg_real x a b = omega (arith, ints)
-
-pub real_time : (x : ℤ) → negsuc 86399 ≤ℤ x → x ≤ℤ pos 86400 → to_z w64 (of_z w64 x) ≡ x
-real_time x a b = omega (arith, ints)

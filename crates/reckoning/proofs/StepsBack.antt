@@ -1,12 +1,12 @@
 -- The value kept for each place: it moves by one step for each window that comes in, and stays right as spans join.
-use Rattle.std.proofs.Common.{◌≡◌, ℕ, zero, suc, ◌+◌, ◌*◌, ◌<◌, ◌≤◌, Bool, true, false, cond, ◌&&◌, eqb, List, [], ◌∷◌, ◌++◌, reverse, length, get_or, take, drop, ℤ, pos, negsuc, ◌+ℤ◌, ◌-ℤ◌, neg_ℤ, ◌≤ℤ◌, ◌<ℤ◌, Some, None, fold, Option, sym, refl, ap, ◌∙◌, subst, inl, arith}
+use Rattle.std.proofs.Common.{◌≡◌, ℕ, zero, suc, ◌+◌, ◌-◌, ◌*◌, ◌<◌, ◌≤◌, Bool, true, false, cond, ◌&&◌, eqb, List, [], ◌∷◌, ◌++◌, map, filter, length, get_or, set, take, drop, ℤ, pos, negsuc, ◌+ℤ◌, ◌-ℤ◌, neg_ℤ, ◌≤ℤ◌, ◌<ℤ◌, Some, None, fold, Option, sym, refl, ap, ◌∙◌, inl, arith, w64, to_z, of_z}
 use lib.Signed.{le_z, lt_z}
 use Rattle.std.specs.Int.{int_min}
 use Rattle.std.specs.List.{AllByRecursion}
 use Rattle.std.proofs.lemmas.Int.{ints, clamps, by_lt_z}
-use Rattle.std.proofs.ByRecursion.{All-weaker, All-get_or, All-append}
-use Rattle.std.proofs.lemmas.List.{take_more, drop_more, take_all, drop_all, length-append, take-append-drop, append-nil, reverse-append}
-use Rattle.std.proofs.lemmas.List.Sums.{fold_push}
+use Rattle.std.proofs.ByRecursion.{All-weaker}
+use Rattle.std.proofs.lemmas.List.{take_more, drop_more, take_all, drop_all, length-append, take-append-drop, map-append, get_or-append_right, length-map, length-take-le, set_at, append_assoc}
+use Rattle.std.proofs.lemmas.Simd.{map-map}
 use Rattle.std.proofs.lemmas.Bool.{cond-true, cond-false, and_right, and_left, and_from, ne_eqb}
 use Rattle.field.specs.declared.window.Window.{Window}
 use Rattle.theory.specs.declared.span.Span.{Span}
@@ -15,7 +15,8 @@ use Rattle.theory.specs.Orders.{count, enclosed, counted, window_at}
 use Rattle.theory.specs.Closed.{covers, Off, greatest_outside, backward}
 use Rattle.theory.specs.Method.{backwards, settle, join}
 use Rattle.theory.proofs.Closed.{leZ_true, leZ_false, ltZ_false, covers_true, greatest_le, greatest_most}
-use Rattle.reckoning.specs.Values.{Fit, lows, Kept, Pace, Near, Timed}
+use Rattle.reckoning.specs.declared.values.Kept.{Kept}
+use Rattle.reckoning.specs.Values.{Fit, kept, kept_of, moved, lows, Pace, Near, Timed}
 
 pub le_z_yes : (a b : ℤ) → a ≤ℤ b → le_z a b ≡ true
 le_z_yes a b h = grind (arith, ints)
@@ -179,70 +180,47 @@ far_length ws g r l =
 
 -- ---- the least value
 
-drop_one : (vs : List ℤ) (j : ℕ) → get_or (drop 1 vs) j (pos 0) ≡ get_or vs (suc j) (pos 0)
-drop_one [] j = refl
-drop_one (v ∷ vs) j = refl
-
--- the value of one more place, if it counts a window
-abbrev low_of : Window → ℤ → List ℤ
-low_of w v = cond (le_z v w.late) (v ∷ []) []
-
-lows_suc : (ws : List Window) (vs : List ℤ) (j : ℕ) → j < length ws → lows (take (suc j) ws) vs ≡ lows (take j ws) vs ++ low_of (window_at ws j) (get_or vs j (pos 0))
+pub lows_all : (P : ℤ → Type 0) (ks : List Kept) → AllByRecursion P (lows ks) → AllByRecursion (λ k. k.value ≤ℤ k.late → P k.value) ks
 unfolding lows
-lows_suc [] vs j h = absurd (omega arith)
-lows_suc (w ∷ ws) vs zero h = refl
-lows_suc (w ∷ ws) vs (suc j) h = go (le_z v w.late) (lows_suc ws (drop 1 vs) j (omega arith)) (drop_one vs j)
+lows_all P [] a = tt
+lows_all P (k ∷ ks) a = go (lows_all P ks) (le_z k.value k.late) refl a
   where
-    v : ℤ
-    v = get_or vs 0 (pos 0)
+    go : (AllByRecursion P (lows ks) → AllByRecursion (λ k. k.value ≤ℤ k.late → P k.value) ks) → (b : Bool) → le_z k.value k.late ≡ b → AllByRecursion P (map (λ (j : Kept). j.value) (cond b (k ∷ filter (λ (j : Kept). le_z j.value j.late) ks) (filter (λ (j : Kept). le_z j.value j.late) ks))) → AllByRecursion (λ k. k.value ≤ℤ k.late → P k.value) (k ∷ ks)
+    go ih true e a = ((λ _. a.0), ih a.1)
+    go ih false e a = ((λ h. let d = leZ_false k.value k.late e in absurd (omega (arith, ints))), ih a)
 
-    rest : List ℤ
-    rest = drop 1 vs
+-- a value that counts no window is no less than the cap
+abbrev pub capped : ℤ → Kept → ℤ
+capped c k = cond (le_z k.value k.late) k.value c
 
-    tail : List ℤ → ℤ → List ℤ
-    tail xs x = xs ++ low_of (window_at ws j) x
-
-    go : (b : Bool) → lows (take (suc j) ws) rest ≡ tail (lows (take j ws) rest) (get_or rest j (pos 0)) → get_or rest j (pos 0) ≡ get_or vs (suc j) (pos 0) → cond b (v ∷ lows (take (suc j) ws) rest) (lows (take (suc j) ws) rest) ≡ tail (cond b (v ∷ lows (take j ws) rest) (lows (take j ws) rest)) (get_or vs (suc j) (pos 0))
-    go true ih e = ap (λ z. get_or vs 0 (pos 0) ∷ z) (ih ∙ ap (λ x. lows (take j ws) (drop 1 vs) ++ low_of (window_at ws j) x) e)
-    go false ih e = ih ∙ ap (λ x. lows (take j ws) (drop 1 vs) ++ low_of (window_at ws j) x) e
-
-pub lows_more : (ws : List Window) (vs : List ℤ) (j : ℕ) → j < length ws → lows (take (j + 1) ws) vs ≡ lows (take j ws) vs ++ cond (le_z (get_or vs j (pos 0)) (window_at ws j).late) (get_or vs j (pos 0) ∷ []) []
-lows_more ws vs j h = let e : j + 1 ≡ suc j = omega arith in ap (λ k. lows (take k ws) vs) e ∙ lows_suc ws vs j h
-
-pub lows_all : (P : ℤ → Type 0) (ws : List Window) (vs : List ℤ) → AllByRecursion P (lows ws vs) → (j : ℕ) → j < length ws → get_or vs j (pos 0) ≤ℤ (window_at ws j).late → P (get_or vs j (pos 0))
+pub capped_all : (c m : ℤ) (ks : List Kept) → m ≤ℤ c → fold int_min m (map (capped c) ks) ≡ fold int_min m (lows ks)
 unfolding lows
-lows_all P [] vs a j h k = absurd (omega arith)
-lows_all P (w ∷ ws) vs a j h k = go (lows_all P ws (drop 1 vs)) (le_z (get_or vs 0 (pos 0)) w.late) refl a j h k
+capped_all c m [] h = refl
+capped_all c m (k ∷ ks) h = go (le_z k.value k.late) (capped_all c (int_min m k.value) ks (omega (arith, ints, clamps))) (capped_all c m ks h)
   where
-    v : ℤ
-    v = get_or vs 0 (pos 0)
+    go : (b : Bool) → fold int_min (int_min m k.value) (map (capped c) ks) ≡ fold int_min (int_min m k.value) (lows ks) → fold int_min m (map (capped c) ks) ≡ fold int_min m (lows ks) → fold int_min (int_min m (cond b k.value c)) (map (capped c) ks) ≡ fold int_min m (map (λ (j : Kept). j.value) (cond b (k ∷ filter (λ (j : Kept). le_z j.value j.late) ks) (filter (λ (j : Kept). le_z j.value j.late) ks)))
+    go true i j = i
+    go false i j = let e : int_min m c ≡ m = omega (arith, ints, clamps, h) in ap (λ z. fold int_min z (map (capped c) ks)) e ∙ j
 
-    go : (AllByRecursion P (lows ws (drop 1 vs)) → (j : ℕ) → j < length ws → get_or (drop 1 vs) j (pos 0) ≤ℤ (window_at ws j).late → P (get_or (drop 1 vs) j (pos 0))) → (b : Bool) → le_z v w.late ≡ b → AllByRecursion P (cond b (v ∷ lows ws (drop 1 vs)) (lows ws (drop 1 vs))) → (j : ℕ) → j < suc (length ws) → get_or vs j (pos 0) ≤ℤ (window_at (w ∷ ws) j).late → P (get_or vs j (pos 0))
-    go ih true e a zero h k = a.0
-    go ih false e a zero h k = let d = leZ_false v w.late e in absurd (omega (arith, ints))
-    go ih true e a (suc j) h k = let q = drop_one vs j in subst P q (ih a.1 j (omega arith) (subst (λ z. z ≤ℤ (window_at ws j).late) (sym q) k))
-    go ih false e a (suc j) h k = let q = drop_one vs j in subst P q (ih a j (omega arith) (subst (λ z. z ≤ℤ (window_at ws j).late) (sym q) k))
-
-pub lows_backwards : (p : ℤ) (ws : List Window) (f : List Span) (r : ℤ) (us : List Window) (vs : List ℤ) → pos 1 ≤ℤ p → ((j : ℕ) → j < length us → get_or vs j (pos 0) ≡ backward p f (window_at us j).late (counted ws r (window_at us j).late)) → lows us vs ≡ backwards p ws r f us
+pub lows_backwards : (p : ℤ) (ws : List Window) (f : List Span) (r : ℤ) (us : List Window) → pos 1 ≤ℤ p → lows (map (kept_of p ws f r) us) ≡ backwards p ws r f us
 unfolding lows backwards backward
-lows_backwards p ws f r [] vs h k = refl
-lows_backwards p ws f r (u ∷ us) vs h k =
-    go (counted ws r u.late) (k 0 (omega arith)) (lows_backwards p ws f r us (drop 1 vs) h (λ j l. drop_one vs j ∙ k (suc j) (omega arith)))
+lows_backwards p ws f r [] h = refl
+lows_backwards p ws f r (u ∷ us) h = go (counted ws r u.late) (lows_backwards p ws f r us h)
   where
-    v : ℤ
-    v = get_or vs 0 (pos 0)
-
-    xs : List ℤ
-    xs = lows us (drop 1 vs)
-
-    ys : List ℤ
-    ys = backwards p ws r f us
-
-    go : (n : ℕ) → v ≡ backward p f u.late n → xs ≡ ys → cond (le_z v u.late) (v ∷ xs) xs ≡ cond (eqb n 0) ys (backward p f u.late n ∷ ys)
-    go zero e q = cond-false (le_z v u.late) (v ∷ xs) xs (leZ_no v u.late (omega (arith, ints))) ∙ q
-    go (suc n) e q =
+    go : (n : ℕ) → lows (map (kept_of p ws f r) us) ≡ backwards p ws r f us → map (λ (k : Kept). k.value) (cond (le_z (backward p f u.late n) u.late) (record { late = u.late; value = backward p f u.late n } ∷ filter (λ (k : Kept). le_z k.value k.late) (map (kept_of p ws f r) us)) (filter (λ (k : Kept). le_z k.value k.late) (map (kept_of p ws f r) us))) ≡ cond (eqb n 0) (backwards p ws r f us) (backward p f u.late n ∷ backwards p ws r f us)
+    go zero q =
+        let ks = filter (λ (k : Kept). le_z k.value k.late) (map (kept_of p ws f r) us) in
+        let k : Kept = record { late = u.late; value = u.late +ℤ p } in
+        ap (map (λ (k : Kept). k.value)) (cond-false (le_z (u.late +ℤ p) u.late) (k ∷ ks) ks (leZ_no (u.late +ℤ p) u.late (omega (arith, ints)))) ∙ q
+    go (suc n) q =
         let b = back_le p f u.late n h in
-        cond-true (le_z v u.late) (v ∷ xs) xs (le_z_yes v u.late (omega (arith, ints))) ∙ (let w = cond-false (eqb (suc n) 0) ys (backward p f u.late (suc n) ∷ ys) (ne_eqb (suc n) 0 (λ z. omega arith)) in cc)
+        let v = backward p f u.late (suc n) in
+        let ys = backwards p ws r f us in
+        let ks = filter (λ (k : Kept). le_z k.value k.late) (map (kept_of p ws f r) us) in
+        let k : Kept = record { late = u.late; value = v } in
+        ap (map (λ (k : Kept). k.value)) (cond-true (le_z v u.late) (k ∷ ks) ks (le_z_yes v u.late (omega (arith, ints))))
+        ∙ ap (λ z. v ∷ z) q
+        ∙ sym (cond-false (eqb (suc n) 0) ys (v ∷ ys) (ne_eqb (suc n) 0 (λ z. omega arith)))
 
 -- ---- the step at an early, with the least value capped at r + p
 
@@ -283,80 +261,108 @@ join_capped p r (b ∷ bs) f h = settle_capped p r (fold int_min b bs) f h ∙ a
 
 -- ---- a loop over the windows that come in at r
 
+-- what is made of each of two lists alike
+pub map_alike : {X Y : Type 0} (f g : X → Y) (xs : List X) → AllByRecursion (λ x. f x ≡ g x) xs → map f xs ≡ map g xs
+map_alike f g [] a = refl
+map_alike f g (x ∷ xs) a = ap (λ y. y ∷ map f xs) a.0 ∙ ap (λ ys. g x ∷ ys) (map_alike f g xs a.1)
+
+pub each : {X : Type 0} (P : X → Type 0) → ((x : X) → P x) → (xs : List X) → AllByRecursion P xs
+each P h [] = tt
+each P h (x ∷ xs) = (h x, each P h xs)
+
+pub all_map : {X Y : Type 0} (P : Y → Type 0) (f : X → Y) (xs : List X) → AllByRecursion (λ x. P (f x)) xs → AllByRecursion P (map f xs)
+all_map P f [] a = tt
+all_map P f (x ∷ xs) a = (a.0, all_map P f xs a.1)
+
+pub map_all : {X Y : Type 0} (P : Y → Type 0) (f : X → Y) (xs : List X) → AllByRecursion P (map f xs) → AllByRecursion (λ x. P (f x)) xs
+map_all P f [] a = tt
+map_all P f (x ∷ xs) a = (a.0, map_all P f xs a.1)
+
 -- the first g windows have been looked at
-unfoldable pub Partly : ℤ → List Window → List Span → ℕ → ℤ → List ℤ → Type 0
-Partly p ws f g r vs = (j : ℕ) → j < length ws → get_or vs j (pos 0) ≡ backward p f (window_at ws j).late (so_far ws g r (window_at ws j).late)
+abbrev part_of : ℤ → List Window → List Span → ℕ → ℤ → Window → Kept
+part_of p ws f g r w = record { late = w.late; value = backward p f w.late (so_far ws g r w.late) }
 
-pub partly_none : (p : ℤ) (ws : List Window) (f : List Span) (r : ℤ) (vs : List ℤ) → Kept p ws f (r +ℤ pos 1) vs → Partly p ws f 0 r vs
-unfolding Kept Partly
-partly_none p ws f r vs k j h = k j h ∙ ap (backward p f (window_at ws j).late) (sym (far_none ws r (window_at ws j).late))
+unfoldable pub partly : ℤ → List Window → List Span → ℕ → ℤ → List Kept
+partly p ws f g r = map (part_of p ws f g r) ws
 
-pub partly_all : (p : ℤ) (ws : List Window) (f : List Span) (g : ℕ) (r : ℤ) (vs : List ℤ) → g ≤ length ws → length ws ≤ g → Partly p ws f g r vs → Kept p ws f r vs
-unfolding Kept Partly
-partly_all p ws f g r vs a b k j h =
-    let l = (window_at ws j).late in
+abbrev pub valued : ℤ → ℤ → Kept
+valued l v = record { late = l; value = v }
+
+abbrev at_count : ℤ → List Span → Window → ℕ → Kept
+at_count p f w n = valued w.late (backward p f w.late n)
+
+pub partly_none : (p : ℤ) (ws : List Window) (f : List Span) (r : ℤ) → kept p ws f (r +ℤ pos 1) ≡ partly p ws f 0 r
+unfolding kept partly
+partly_none p ws f r =
+    map_alike (kept_of p ws f (r +ℤ pos 1)) (part_of p ws f 0 r) ws
+    (each (λ w. kept_of p ws f (r +ℤ pos 1) w ≡ part_of p ws f 0 r w) (λ w. ap (at_count p f w) (sym (far_none ws r w.late))) ws)
+
+pub partly_all : (p : ℤ) (ws : List Window) (f : List Span) (g : ℕ) (r : ℤ) → g ≤ length ws → length ws ≤ g → partly p ws f g r ≡ kept p ws f r
+unfolding kept partly
+partly_all p ws f g r a b =
     let e : g ≡ length ws = omega arith in
-    k j h ∙ ap (backward p f l) (ap (λ i. so_far ws i r l) e ∙ far_all ws r l)
+    map_alike (part_of p ws f g r) (kept_of p ws f r) ws
+    (each (λ w. part_of p ws f g r w ≡ kept_of p ws f r w) (λ w. ap (at_count p f w) (ap (λ i. so_far ws i r w.late) e ∙ far_all ws r w.late)) ws)
 
-pub partly_other : (p : ℤ) (ws : List Window) (f : List Span) (g : ℕ) (r : ℤ) (vs : List ℤ) → g < length ws → ((window_at ws g).early ≡ r → ⊥) → Partly p ws f g r vs → Partly p ws f (g + 1) r vs
-unfolding Partly
-partly_other p ws f g r vs h n k j l = k j l ∙ ap (backward p f (window_at ws j).late) (sym (far_other ws g r (window_at ws j).late h n))
+pub partly_other : (p : ℤ) (ws : List Window) (f : List Span) (g : ℕ) (r : ℤ) → g < length ws → ((window_at ws g).early ≡ r → ⊥) → partly p ws f g r ≡ partly p ws f (g + 1) r
+unfolding partly
+partly_other p ws f g r h n =
+    map_alike (part_of p ws f g r) (part_of p ws f (g + 1) r) ws
+    (each (λ w. part_of p ws f g r w ≡ part_of p ws f (g + 1) r w) (λ w. ap (at_count p f w) (sym (far_other ws g r w.late h n))) ws)
 
-pub partly_here : (p : ℤ) (ws : List Window) (f : List Span) (g : ℕ) (r : ℤ) (vs us : List ℤ) → g < length ws → (window_at ws g).early ≡ r → Partly p ws f g r vs → ((j : ℕ) → j < length ws → get_or us j (pos 0) ≡ cond (le_z (window_at ws g).late (window_at ws j).late) (greatest_outside f (get_or vs j (pos 0) -ℤ p)) (get_or vs j (pos 0))) → Partly p ws f (g + 1) r us
-unfolding Partly backward
-partly_here p ws f g r vs us h e k m j l = go (le_z (window_at ws g).late t) refl
+pub partly_here : (p : ℤ) (ws : List Window) (f : List Span) (g : ℕ) (r : ℤ) → g < length ws → (window_at ws g).early ≡ r → map (moved p f (window_at ws g).late) (partly p ws f g r) ≡ partly p ws f (g + 1) r
+unfolding partly backward
+partly_here p ws f g r h e =
+    map-map (moved p f l) (part_of p ws f g r) ws
+    ∙ map_alike (λ w. moved p f l (part_of p ws f g r w)) (part_of p ws f (g + 1) r) ws (each (λ w. moved p f l (part_of p ws f g r w) ≡ part_of p ws f (g + 1) r w) (λ w. go w (le_z l w.late) refl) ws)
   where
-    t : ℤ
-    t = (window_at ws j).late
+    l : ℤ
+    l = (window_at ws g).late
 
-    go : (b : Bool) → le_z (window_at ws g).late t ≡ b → get_or us j (pos 0) ≡ backward p f t (so_far ws (g + 1) r t)
-    go true q =
-        m j l
-        ∙ cond-true (le_z (window_at ws g).late t) (greatest_outside f (get_or vs j (pos 0) -ℤ p)) (get_or vs j (pos 0)) q
-        ∙ ap (λ z. greatest_outside f (z -ℤ p)) (k j l)
-        ∙ ap (backward p f (window_at ws j).late) (sym (far_here ws g r (window_at ws j).late h e (leZ_true (window_at ws g).late (window_at ws j).late q)))
-    go false q =
-        m j l
-        ∙ cond-false (le_z (window_at ws g).late t) (greatest_outside f (get_or vs j (pos 0) -ℤ p)) (get_or vs j (pos 0)) q
-        ∙ k j l
-        ∙ ap (backward p f (window_at ws j).late) (sym (far_later ws g r (window_at ws j).late h (leZ_false (window_at ws g).late (window_at ws j).late q)))
+    go : (w : Window) (b : Bool) → le_z (window_at ws g).late w.late ≡ b → moved p f (window_at ws g).late (part_of p ws f g r w) ≡ part_of p ws f (g + 1) r w
+    go w true q =
+        let v = backward p f w.late (so_far ws g r w.late) in
+        ap (valued w.late)
+        (cond-true (le_z (window_at ws g).late w.late) (greatest_outside f (v -ℤ p)) v q ∙ ap (backward p f w.late) (sym (far_here ws g r w.late h e (leZ_true (window_at ws g).late w.late q))))
+    go w false q =
+        let v = backward p f w.late (so_far ws g r w.late) in
+        ap (valued w.late)
+        (cond-false (le_z (window_at ws g).late w.late) (greatest_outside f (v -ℤ p)) v q ∙ ap (backward p f w.late) (sym (far_later ws g r w.late h (leZ_false (window_at ws g).late w.late q))))
 
-pub near_back : (p : ℤ) (f : List Span) (l v : ℤ) (n : ℕ) → Pace p → AllByRecursion Fit f → negsuc 86399 ≤ℤ l → l ≤ℤ pos 86400 → n ≤ 64 → v ≡ backward p f l n → Near v
-near_back p f l v n h a b d k e =
+near_back : (p : ℤ) (f : List Span) (l : ℤ) (n : ℕ) → Pace p → AllByRecursion Fit f → negsuc 86399 ≤ℤ l → l ≤ℤ pos 86400 → n ≤ 64 → Near (backward p f l n)
+near_back p f l n h a b d k =
     let low = back_low p f l n h.0 h.1 a b in
     let high = back_high p f l n h.0 in
-    (omega (arith, ints, low, e, k), omega (arith, ints, high, e, h.1))
+    (omega (arith, ints, low, k), omega (arith, ints, high, h.1))
 
-pub partly_near : (p : ℤ) (ws : List Window) (f : List Span) (g : ℕ) (r : ℤ) (vs : List ℤ) → Pace p → AllByRecursion Fit f → AllByRecursion Timed ws → length ws ≤ 64 → Partly p ws f g r vs → (j : ℕ) → j < length ws → Near (get_or vs j (pos 0))
-unfolding Partly
-partly_near p ws f g r vs h a t s k j l =
-    let w = All-get_or Timed ws j outside l t in
-    let n = far_length ws g r (window_at ws j).late in
-    near_back p f (window_at ws j).late (get_or vs j (pos 0)) (so_far ws g r (window_at ws j).late) h a w.2 w.3 (omega (arith, n)) (k j l)
+pub partly_near : (p : ℤ) (ws : List Window) (f : List Span) (g : ℕ) (r : ℤ) → Pace p → AllByRecursion Fit f → AllByRecursion Timed ws → length ws ≤ 64 → AllByRecursion (λ k. Near k.value) (partly p ws f g r)
+unfolding partly
+partly_near p ws f g r h a t s =
+    all_map (λ k. Near k.value) (part_of p ws f g r) ws
+    (All-weaker Timed (λ w. Near (part_of p ws f g r w).value) (λ w q. let n = far_length ws g r w.late in near_back p f w.late (so_far ws g r w.late) h a q.2 q.3 (omega (arith, n))) ws t)
 
--- ---- the loop for the least value
+-- ---- a list that is changed from its beginning
 
-folded_cond : (c v : ℤ) (b : Bool) (xs : List ℤ) → fold int_min c (xs ++ cond b (v ∷ []) []) ≡ cond b (int_min (fold int_min c xs) v) (fold int_min c xs)
-folded_cond c v true xs = fold_push int_min c xs v
-folded_cond c v false xs = ap (fold int_min c) (append-nil xs)
+pub changed_more : {X : Type 0} (f : X → X) (xs ys : List X) (i : ℕ) (d x : X) → i < length xs → ys ≡ map f (take i xs) ++ drop i xs → x ≡ f (get_or xs i d) → set ys i x ≡ map f (take (i + 1) xs) ++ drop (i + 1) xs
+changed_more f xs ys i d x h e q =
+    let n = length-map (take i xs) f ∙ length-take-le i xs (omega arith) in
+    ap (λ z. set z i x) (e ∙ ap (λ z. map f (take i xs) ++ z) (drop_more xs i d h))
+    ∙ set_at (map f (take i xs)) (get_or xs i d) (drop (i + 1) xs) x i n
+    ∙ ap (λ z. map f (take i xs) ++ z ∷ drop (i + 1) xs) q
+    ∙ sym (ap (λ z. z ++ drop (i + 1) xs) (ap (map f) (take_more xs i d h) ∙ map-append f (take i xs) (get_or xs i d ∷ [])) ∙ append_assoc (map f (take i xs)) (f (get_or xs i d) ∷ []) (drop (i + 1) xs))
 
-pub lows_step : (ws : List Window) (vs : List ℤ) (j : ℕ) (c m v r : ℤ) → j < length ws → v ≡ get_or vs j (pos 0) → m ≡ fold int_min c (lows (take j ws) vs) → r ≡ cond (le_z v (window_at ws j).late) (int_min m v) m → r ≡ fold int_min c (lows (take (j + 1) ws) vs)
-lows_step ws vs j c m v r h e q d =
-    d
-    ∙ ap (λ z. cond (le_z z (window_at ws j).late) (int_min m z) m) e
-    ∙ ap (λ z. cond (le_z (get_or vs j (pos 0)) (window_at ws j).late) (int_min z (get_or vs j (pos 0))) z) q
-    ∙ sym (folded_cond c (get_or vs j (pos 0)) (le_z (get_or vs j (pos 0)) (window_at ws j).late) (lows (take j ws) vs))
-    ∙ ap (fold int_min c) (sym (lows_more ws vs j h))
+pub changed_at : {X : Type 0} (f : X → X) (xs ys : List X) (i : ℕ) (d : X) → i < length xs → ys ≡ map f (take i xs) ++ drop i xs → get_or ys i d ≡ get_or xs i d
+changed_at f xs ys i d h e =
+    let n = length-map (take i xs) f ∙ length-take-le i xs (omega arith) in
+    ap (λ z. get_or z i d) (e ∙ ap (λ z. map f (take i xs) ++ z) (drop_more xs i d h))
+    ∙ get_or-append_right (map f (take i xs)) (get_or xs i d ∷ drop (i + 1) xs) i i d n (omega arith)
+    ∙ (let z : i - i ≡ 0 = omega arith in ap (λ k. get_or (get_or xs i d ∷ drop (i + 1) xs) k d) z)
 
-pub lows_none : (vs : List ℤ) → lows [] vs ≡ []
-unfolding lows
-lows_none vs = refl
+pub moved_back : (p : ℤ) (f : List Span) (l : ℤ) (k j : Kept) (v : ℤ) → k ≡ j → le_z l k.late ≡ true → v ≡ greatest_outside f (k.value -ℤ p) → valued k.late v ≡ moved p f l j
+moved_back p f l k j v q t e = ap (valued k.late) (e ∙ sym (cond-true (le_z l k.late) (greatest_outside f (k.value -ℤ p)) k.value t)) ∙ ap (moved p f l) q
 
--- ---- the same, at equal arguments
+pub not_moved : (p : ℤ) (f : List Span) (l : ℤ) (k j : Kept) (v : ℤ) → k ≡ j → le_z l k.late ≡ false → v ≡ k.value → valued k.late v ≡ moved p f l j
+not_moved p f l k j v q t e = ap (valued k.late) (e ∙ sym (cond-false (le_z l k.late) (greatest_outside f (k.value -ℤ p)) k.value t)) ∙ ap (moved p f l) q
 
-pub partly_same : (p q : ℤ) (ws : List Window) (f : List Span) (g : ℕ) (r s : ℤ) (vs : List ℤ) → p ≡ q → r ≡ s → Partly p ws f g r vs → Partly q ws f g s vs
-partly_same p q ws f g r s vs e d k = subst (λ z. Partly z ws f g s vs) e (subst (λ z. Partly p ws f g z vs) d k)
-
-pub all_reverse : {X : Type 0} (P : X → Type 0) (xs : List X) → AllByRecursion P xs → AllByRecursion P (reverse xs)
-all_reverse P [] a = tt
-all_reverse P (x ∷ xs) a = subst (AllByRecursion P) (sym (reverse-append (x ∷ []) xs)) (All-append P (reverse xs) (x ∷ []) (all_reverse P xs a.1) (a.0, tt))
+pub step_real : (v p q : ℤ) → Near v → Pace p → p ≡ q → to_z w64 (of_z w64 (to_z w64 (of_z w64 v) -ℤ to_z w64 (of_z w64 p))) ≡ v -ℤ q
+step_real v p q h k e = omega (arith, ints, h.0, h.1, k.0, k.1, e)

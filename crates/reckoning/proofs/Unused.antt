@@ -10,7 +10,7 @@ use Rattle.theory.specs.Closed.{Off, Outside}
 use Rattle.theory.specs.Method.{forbidden}
 use Rattle.theory.proofs.Sound.{Good, good}
 use Rattle.reckoning.specs.Spans.{Unused}
-use Rattle.reckoning.proofs.StepsBack.{all_reverse}
+use Rattle.reckoning.proofs.Lookups.{all_reverse}
 
 found_unused : (p : ℤ) (ws : List Window) (ss : List Span) → pos 1 ≤ℤ p → forbidden p ws ≡ Some (reverse ss) → Unused p ws ss
 found_unused p ws ss h e xs o i k =

@@ -4,4 +4,3 @@ pub mod Spans
 pub mod Order
 pub mod Range
 pub mod Values
-pub mod Told

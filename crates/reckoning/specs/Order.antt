@@ -1,8 +1,7 @@
 -- The list of the written order.
-use Rattle.std.specs.Prelude.{◌≡◌, ℕ, ◌<◌, List, [], ◌∷◌, map, length, drop, ℤ, pos, ◌+ℤ◌, ◌≤ℤ◌, Result, ◌≢◌, slice_index, slice_index_or}
+use Rattle.std.specs.Prelude.{◌≡◌, ℕ, ◌<◌, List, [], ◌∷◌, map, length, ℤ, pos, ◌+ℤ◌, ◌≤ℤ◌, Option, Some, None, Result, ◌≢◌, slice_index}
 use Rattle.std.specs.List.{AllByRecursion}
 use Rattle.field.specs.declared.window.Window.{Window}
-use Rattle.field.specs.Windows.{outside}
 use Rattle.theory.specs.declared.span.Span.{Span}
 use Rattle.theory.specs.declared.group.Group.{Group}
 use Rattle.theory.specs.declared.group.Played.{Played}
@@ -11,16 +10,14 @@ use Rattle.theory.specs.Written.{least_early, chosen, play_all, by_place}
 use Rattle.reckoning.specs.declared.start.Start.{Start}
 use Rattle.reckoning.specs.Lists.{told}
 
--- what is never read
-abbrev pub nobody : Group
-nobody = record { place = 0; win = outside }
+-- the least early of some groups, and the chosen one
+unfoldable pub least_of : List Group → Option ℤ
+least_of [] = None
+least_of (g ∷ gs) = Some (least_early g gs)
 
--- the least early and the chosen one of groups that are there
-unfoldable pub least_of : List Group → ℤ
-least_of gs = least_early (slice_index_or gs 0 nobody) (drop 1 gs)
-
-unfoldable pub chosen_of : ℤ → List Group → Group
-chosen_of t gs = chosen t (slice_index_or gs 0 nobody) (drop 1 gs)
+unfoldable pub chosen_of : ℤ → List Group → Option Group
+chosen_of t [] = None
+chosen_of t (g ∷ gs) = Some (chosen t g gs)
 
 -- the groups of a field as they are played
 abbrev pub played : ℤ → List Span → List Window → List Played

@@ -1,12 +1,12 @@
 -- The questions that a reckoning puts to a field, in their order. Each is put to the whole field before
 -- the next.
-use Rattle.std.specs.Prelude.{ℕ, Bool, true, ◌&&◌, List, [], ◌∷◌, ◌++◌, length, ℤ, pos, negsuc, Option, int_le, nat_le}
+use Rattle.std.specs.Prelude.{ℕ, Bool, ◌&&◌, List, [], ◌∷◌, ◌++◌, length, ℤ, pos, negsuc, Option, int_le, nat_le}
+use Rattle.std.specs.List.{list_all}
 use Rattle.field.specs.declared.window.Window.{Window}
 use Rattle.field.specs.Refusals.{Question, question, first_no}
 
 abbrev pub every : (Window → Bool) → List Window → Bool
-every t [] = true
-every t (w ∷ ws) = t w && every t ws
+every t ws = list_all t ws
 
 -- a time lies from -86,400 to 86,400
 abbrev pub in_time : ℤ → Bool

@@ -1,20 +1,31 @@
 -- Words of the code's own loops: the value that is kept for each place, and the earlies that are left.
-use Rattle.std.specs.Prelude.{◌≡◌, ℕ, ◌<◌, cond, List, [], ◌∷◌, length, get_or, drop, ℤ, pos, negsuc, ◌+ℤ◌, ◌≤ℤ◌, ◌<ℤ◌, filter, int_le, int_lt, slice_index_or}
-use Rattle.std.specs.List.{AllByRecursion}
-use Rattle.theory.specs.Orders.{counted, window_at}
-use Rattle.theory.specs.Closed.{backward}
+use Rattle.std.specs.Prelude.{◌≡◌, cond, List, [], ◌∷◌, ℤ, pos, negsuc, ◌+ℤ◌, ◌-ℤ◌, ◌≤ℤ◌, ◌<ℤ◌, filter, int_le, int_lt, map}
+use Rattle.std.specs.List.{AllByRecursion, AllByRecursion-prop}
+use Rattle.std.specs.Coded.{×_prop, Unit-prop}
+use Rattle.std.proofs.Props.{props}
+use Rattle.theory.specs.Orders.{counted}
+use Rattle.theory.specs.Closed.{greatest_outside, backward}
 use Rattle.theory.specs.Method.{earlies}
 use Rattle.field.specs.declared.window.Window.{Window}
 use Rattle.theory.specs.declared.span.Span.{Span}
+use Rattle.reckoning.specs.declared.values.Kept.{Kept}
 
 -- the newest span first: each ends before those found before it
 abbrev pub Falling : List Span → Type 0
 Falling [] = Unit {0}
 Falling (s ∷ f) = AllByRecursion (λ o. s.last <ℤ o.last) f × Falling f
 
+-- it has one proof at most
+pub Falling-prop : (f : List Span) → IsProp (Falling f)
+Falling-prop [] = Unit-prop
+Falling-prop (s ∷ f) = ×_prop (AllByRecursion-prop (λ o. s.last <ℤ o.last) (λ o. Prim.hlevel props) f) (Falling-prop f)
+
 -- -89999 is the least time that a span can begin at
 abbrev pub Fit : Span → Type 0
 Fit s = (negsuc 89998 ≤ℤ s.first) × (s.last ≤ℤ pos 86400)
+
+abbrev pub InTime : ℤ → Type 0
+InTime z = (negsuc 86399 ≤ℤ z) × (z ≤ℤ pos 86400)
 
 abbrev pub Timed : Window → Type 0
 Timed w = (negsuc 86399 ≤ℤ w.early) × (w.early ≤ℤ pos 86400) × (negsuc 86399 ≤ℤ w.late) × (w.late ≤ℤ pos 86400)
@@ -23,22 +34,21 @@ Timed w = (negsuc 86399 ≤ℤ w.early) × (w.early ≤ℤ pos 86400) × (negsuc
 unfoldable pub rest : List Window → ℤ → List ℤ
 rest ws b = filter (λ x. int_lt x b) (earlies ws)
 
--- the value kept for each place once the windows from r on have come in
-unfoldable pub Kept : ℤ → List Window → List Span → ℤ → List ℤ → Type 0
-Kept p ws f r vs = (j : ℕ) → j < length ws → slice_index_or vs j (pos 0) ≡ backward p f (window_at ws j).late (counted ws r (window_at ws j).late)
+-- the value kept for a window once the windows from r on have come in
+abbrev pub kept_of : ℤ → List Window → List Span → ℤ → Window → Kept
+kept_of p ws f r w = record { late = w.late; value = backward p f w.late (counted ws r w.late) }
+
+-- what is kept for each place
+unfoldable pub kept : ℤ → List Window → List Span → ℤ → List Kept
+kept p ws f r = map (kept_of p ws f r) ws
+
+-- what is kept moves one step back where a window with the late l counts for it
+abbrev pub moved : ℤ → List Span → ℤ → Kept → Kept
+moved p f l k = record { late = k.late; value = cond (int_le l k.late) (greatest_outside f (k.value -ℤ p)) k.value }
 
 -- the values that count a window: those at or before the late
-unfoldable pub lows : List Window → List ℤ → List ℤ
-lows [] vs = []
-lows (w ∷ ws) vs =
-    let v = get_or vs 0 (pos 0) in
-    let more = lows ws (drop 1 vs) in
-    cond (int_le v w.late) (v ∷ more) more
-
--- the first of a list
-unfoldable pub head_or : ℤ → List ℤ → ℤ
-head_or d [] = d
-head_or d (x ∷ xs) = x
+unfoldable pub lows : List Kept → List ℤ
+lows ks = map (λ k. k.value) (filter (λ k. int_le k.value k.late) ks)
 
 -- r is the next early before b: what is left before b is r and what is left before r
 pub record Next (ws : List Window) (b r : ℤ) : Type 0 where

@@ -7,15 +7,14 @@
 
 mod closed;
 pub mod ends;
-mod found;
 pub mod order;
 pub mod possible;
 pub mod range;
 mod reckon;
 pub mod spans;
 pub mod start;
+mod taken;
 mod values;
-mod windows;
 
 pub use ends::Range;
 pub use start::Start;

@@ -1,132 +1,65 @@
 //! The written order of a field.
 
-ghost use Rattle.std.specs.Prelude.{◌≡◌, ◌+◌, ◌<◌, ◌≤◌, ◌++◌, map, reverse, length, take, drop, pos, IfOk, if◌then◌else◌};
+ghost use Rattle.std.specs.Prelude.{◌≡◌, ◌≤◌, ◌≤ℤ◌, ◌++◌, map, reverse, length, take, drop, pos, IfOk, IfSome};
 ghost use Rattle.field.specs.Refusals.{by_number};
 ghost use Rattle.reckoning.specs.Lists.{answer, leaves, Thirteen};
 ghost use Rattle.reckoning.specs.Order.{least_of, chosen_of, played, start_of, order_told, Plays};
-ghost use Rattle.reckoning.specs.Values.{Falling, Fit, Timed, Pace};
-ghost use Rattle.std.specs.Int.{int_min, int_max};
-ghost use Rattle.std.specs.List.{AllByRecursion};
-ghost use Rattle.theory.specs.Written.{by_place, goes_first, without};
+ghost use Rattle.std.specs.Option.{option_map};
+ghost use Rattle.theory.specs.Written.{by_place};
 
-use crate::closed::least_outside;
-use crate::reckon::reckon;
+use crate::closed::Closed;
+use crate::reckon::for_list;
 use crate::start::Start;
-use crate::windows::gather::taken;
+use crate::taken::Taken;
+use arrayvec::ArrayVec;
 use field::{Numbered, Refusal, Window};
-use theory::{Group, Played, Span};
+use theory::{Group, Played};
 
 /// The groups by place.
-fn number(windows: &[Window], groups: &mut [Group])
-    requires { length windows.now ≤ length groups.old }
-    ensures { take (length windows.now) groups.new ≡ by_place 0 windows.now }
+fn number(windows: &[Window]) -> ArrayVec<Group, 64>
+    requires { length windows.now ≤ 64 }
+    ensures { result.items ≡ by_place 0 windows.now }
 {
-    for place in 0..windows.len() {
-        groups[place] = Group {
-            place,
-            win: windows[place],
-        };
+    let mut groups = ArrayVec::new();
+    for (place, win) in windows.iter().enumerate() {
+        groups.push(Group { place, win: *win });
     }
+    groups
 }
 
-fn sooner(group: Group, early: i64) -> i64
-    ensures { result ≡ int_min group.win.early early }
-{
-    if early < group.win.early {
-        early
-    } else {
-        group.win.early
-    }
-}
-
-/// The least early of the groups.
-fn least_early(groups: &[Group]) -> i64
-    requires { 0 < length groups.now }
+/// The least early of the groups, if there is one.
+fn least_early(groups: &[Group]) -> Option<i64>
     ensures { result ≡ least_of groups.now }
 {
-    let mut early = groups[groups.len() - 1].win.early;
-    for i in (0..groups.len() - 1).rev() {
-        early = sooner(groups[i], early);
-    }
-    early
+    groups.iter().map(|group| group.win.early).min()
 }
 
-/// The group that goes first at a time.
-fn first_at(time: i64, group: Group, other: Group) -> Group
-    ensures { result ≡ (if goes_first time group other then group else other) }
+/// Of the groups released at a time, the place of the one with the least late, and of equal lates the lowest.
+fn next_at(time: i64, groups: &[Group]) -> Option<usize>
+    ensures { IfSome (least_of groups.now) (λ e. e ≤ℤ time) → result ≡ option_map (λ g. g.place) (chosen_of time groups.now) }
 {
-    if group.win.early <= time && (time < other.win.early || group.win.late <= other.win.late) {
-        group
-    } else {
-        other
-    }
+    groups
+        .iter()
+        .filter(|group| group.win.early <= time)
+        .min_by_key(|group| group.win.late)
+        .map(|group| group.place)
 }
 
-/// Of the groups released at a time, the one with the least late, and of equal lates the lowest place.
-fn next_at(time: i64, groups: &[Group]) -> Group
-    requires { 0 < length groups.now }
-    ensures { result ≡ chosen_of time groups.now }
+/// Plays a field outside its closed spans: the places with their starts.
+fn play(taken: &Taken, closed: &Closed) -> ArrayVec<Played, 64>
+    ensures { result.items ≡ played taken.now.pace (reverse closed.now.spans.items) taken.now.windows.items }
 {
-    let mut best = groups[groups.len() - 1];
-    for i in (0..groups.len() - 1).rev() {
-        best = first_at(time, groups[i], best);
+    let mut groups = number(taken.windows());
+    let mut turns = ArrayVec::new();
+    let mut free = -86_400;
+    while let Some(early) = least_early(&groups) {
+        let time = closed.least_outside(free.max(early));
+        let place = next_at(time, &groups).unwrap();
+        turns.push(Played { place, time });
+        groups.retain(|group| group.place != place);
+        free = time + taken.pace();
     }
-    best
-}
-
-/// Takes the group of a place out of the first `left`, and says how many are left then.
-fn remove(groups: &mut [Group], left: usize, place: usize) -> usize
-    requires { left ≤ length groups.old }
-    ensures rest { take result groups.new ≡ without place (take left groups.old) }
-    ensures fewer { result ≤ left }
-{
-    let mut stay = 0;
-    for i in 0..left {
-        if groups[i].place != place {
-            groups[stay] = groups[i];
-            stay += 1;
-        }
-    }
-    stay
-}
-
-/// The time from which a group may start.
-fn released(time: i64, early: i64) -> i64
-    ensures { result ≡ int_max time early }
-{
-    if early < time { time } else { early }
-}
-
-/// Plays the windows: the places with their starts, from the beginning of `out`.
-fn play(windows: &[Window], pace: i64, found: &[Span], out: &mut [Played]) -> usize
-    requires few { length windows.now ≤ 64 }
-    requires room { length windows.now ≤ length out.old }
-    requires timed { AllByRecursion Timed windows.now }
-    requires pace { Pace pace }
-    requires falling { Falling (reverse found.now) }
-    requires fit { AllByRecursion Fit found.now }
-    ensures answer { result ≡ length (played pace (reverse found.now) windows.now) }
-    ensures list { take result out.new ≡ played pace (reverse found.now) windows.now }
-    ensures fewer { result ≤ length windows.now }
-{
-    let mut groups = [Group {
-        place: 0,
-        win: Window::outside(),
-    }; 64];
-    number(windows, &mut groups);
-    let mut left = windows.len();
-    let mut time = -86_400;
-    let mut done = 0;
-    while left > 0 {
-        let early = least_early(&groups[0..left]);
-        let start = least_outside(found, released(time, early));
-        let place = next_at(start, &groups[0..left]).place;
-        out[done] = Played { place, time: start };
-        done += 1;
-        left = remove(&mut groups, left, place);
-        time = start + pace;
-    }
-    done
+    turns
 }
 
 /// The entry for a place that is played.
@@ -140,15 +73,14 @@ fn entry<F: Numbered>(field: &F, turn: Played) -> Start
     }
 }
 
-fn write<F: Numbered>(field: &F, turns: &[Played], list: &mut [Start]) -> usize
+fn write<F: Numbered>(field: &F, turns: &[Played], list: &mut [Start])
     requires { length turns.now ≤ length list.old }
-    ensures answer { result ≡ length turns.now }
-    ensures list { list.new ≡ map (start_of (F.Numbered.numbers field.now)) turns.now ++ drop (length turns.now) list.old }
+    ensures { list.new ≡ map (start_of (F.Numbered.numbers field.now)) turns.now ++ drop (length turns.now) list.old }
 {
-    for i in 0..turns.len() {
-        list[i] = entry(field, turns[i]);
+    // By index: a proof knows no element of a slice's `iter_mut` under `zip`.
+    for (i, turn) in turns.iter().enumerate() {
+        list[i] = entry(field, *turn);
     }
-    turns.len()
 }
 
 /// Writes the written order, and answers how many entries it has.
@@ -158,16 +90,8 @@ pub fn order<F: Numbered>(field: &F, pace: u16, list: &mut [Start]) -> Result<us
     ensures thirteen { Thirteen pace (F.Field.windows field.now) (length list.old) result }
     ensures plays { IfOk result (λ n. Plays (pos pace) (F.Field.windows field.now) (take n list.new)) }
 {
-    let windows = taken(field, pace)?;
-    if list.len() < windows.all().len() {
-        return Err(Refusal::ListTooShort);
-    }
-    match reckon(windows.all(), i64::from(pace)) {
-        None => Err(Refusal::NoOrder),
-        Some(closed) => {
-            let mut turns = [Played { place: 0, time: 0 }; 64];
-            let count = play(windows.all(), i64::from(pace), closed.found(), &mut turns);
-            Ok(write(field, &turns[0..count], list))
-        }
-    }
+    let (taken, closed) = for_list(field, pace, list.len())?;
+    let turns = play(&taken, &closed);
+    write(field, &turns, list);
+    Ok(turns.len())
 }

@@ -8,7 +8,7 @@ ghost use Rattle.theory.specs.Method.{forbidden};
 ghost use Rattle.theory.specs.Orders.{Possible};
 
 use crate::reckon::reckon;
-use crate::windows::gather::taken;
+use crate::taken::Taken;
 use field::{Field, Refusal};
 
 /// Refuses a field that fails a question or has no order of play at the pace.
@@ -16,9 +16,7 @@ pub fn possible<F: Field>(field: &F, pace: u16) -> Result<(), Refusal>
     ensures answer { by_number result ≡ decided (refused pace (F.Field.windows field.now)) (mapped (λ _. tt) (forbidden (pos pace) (F.Field.windows field.now))) }
     ensures thirteen { (by_number result ≡ Err 13 → (refused pace (F.Field.windows field.now) ≡ None) × (Possible (pos pace) (F.Field.windows field.now) → ⊥)) × (refused pace (F.Field.windows field.now) ≡ None → (Possible (pos pace) (F.Field.windows field.now) → ⊥) → by_number result ≡ Err 13) }
 {
-    let windows = taken(field, pace)?;
-    match reckon(windows.all(), i64::from(pace)) {
-        None => Err(Refusal::NoOrder),
-        Some(_) => Ok(()),
-    }
+    let taken = Taken::of(field, pace)?;
+    reckon(&taken)?;
+    Ok(())
 }

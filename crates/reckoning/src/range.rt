@@ -1,32 +1,24 @@
 //! The first and the last start of a place.
 
-ghost use Rattle.std.specs.Prelude.{◌≡◌, ◌<◌, true, pos, negsuc, ◌≤ℤ◌, ◌<ℤ◌, is_some};
+ghost use Rattle.std.specs.Prelude.{◌≡◌, ◌<◌, true, ◌≤ℤ◌, ◌<ℤ◌, is_some};
+ghost use Rattle.arrayvec.specs.ArrayVec.{array_vec_len};
 ghost use Rattle.reckoning.specs.Range.{RangeTold, FirstTold};
-ghost use Rattle.reckoning.specs.Told.{windows_of};
-ghost use Rattle.reckoning.specs.Values.{Timed, Pace, Near};
-ghost use Rattle.std.specs.List.{AllByRecursion};
+ghost use Rattle.reckoning.specs.Values.{InTime, Near};
 ghost use Rattle.theory.specs.Method.{forbidden};
 ghost use Rattle.theory.specs.Orders.{window_at};
 ghost use Rattle.theory.specs.Theorem.{cut, First};
 
 use crate::ends::Range;
 use crate::reckon::reckon;
-use crate::windows::Windows;
-use crate::windows::gather::taken;
+use crate::taken::Taken;
 use field::{Field, Refusal, Reversed};
 
 /// Has the field an order of play with the window of a place cut to its early..late?
-fn is_possible(windows: &Windows, place: usize, late: i64, pace: i64) -> bool
-    requires inside { place < windows.now.len }
-    requires timed { AllByRecursion Timed (windows_of windows.now) }
-    requires late { (negsuc 86399 ≤ℤ late) × (late ≤ℤ pos 86400) }
-    requires pace { Pace pace }
-    ensures { result ≡ is_some (forbidden pace (cut (windows_of windows.now) place late)) }
+fn is_possible(taken: &Taken, place: usize, late: i64) -> bool
+    requires { InTime late }
+    ensures { result ≡ is_some (forbidden taken.now.pace (cut taken.now.windows.items place late)) }
 {
-    match reckon(windows.cut(place, late).all(), pace) {
-        None => false,
-        Some(_) => true,
-    }
+    reckon(&taken.cut(place, late)).is_ok()
 }
 
 /// A time between, not the last.
@@ -38,19 +30,19 @@ fn middle(low: i64, high: i64) -> i64
 }
 
 /// The least time to which the window of a place can be cut.
-fn bisect(windows: &Windows, place: usize, pace: i64) -> i64
-    requires inside { place < windows.now.len }
-    requires timed { AllByRecursion Timed (windows_of windows.now) }
-    requires upright { (window_at (windows_of windows.now) place).early ≤ℤ (window_at (windows_of windows.now) place).late }
-    requires pace { Pace pace }
-    requires possible { is_some (forbidden pace (windows_of windows.now)) ≡ true }
-    ensures { First pace (windows_of windows.now) place result }
+fn bisect(taken: &Taken, place: usize) -> i64
+    requires inside { place < array_vec_len taken.now.windows }
+    requires upright { (window_at taken.now.windows.items place).early ≤ℤ (window_at taken.now.windows.items place).late }
+    requires possible { is_some (forbidden taken.now.pace taken.now.windows.items) ≡ true }
+    ensures { First taken.now.pace taken.now.windows.items place result }
 {
-    let mut low = windows.at(place).early;
-    let mut high = windows.at(place).late;
+    let window = taken.windows()[place];
+    let mut low = window.early;
+    let mut high = window.late;
+    // The library's `partition_point` wants a slice, and times are none.
     while low < high {
         let mid = middle(low, high);
-        if is_possible(windows, place, mid, pace) {
+        if is_possible(taken, place, mid) {
             high = mid;
         } else {
             low = mid + 1;
@@ -63,14 +55,12 @@ fn bisect(windows: &Windows, place: usize, pace: i64) -> i64
 fn first_start<F: Field>(field: &F, pace: u16, place: usize) -> Result<i64, Refusal>
     ensures { FirstTold pace (F.Field.windows field.now) place result }
 {
-    let windows = taken(field, pace)?;
-    if place >= windows.all().len() {
+    let taken = Taken::of(field, pace)?;
+    if place >= taken.windows().len() {
         return Err(Refusal::Unknown);
     }
-    match reckon(windows.all(), i64::from(pace)) {
-        None => Err(Refusal::NoOrder),
-        Some(_) => Ok(bisect(&windows, place, i64::from(pace))),
-    }
+    reckon(&taken)?;
+    Ok(bisect(&taken, place))
 }
 
 /// Tells the first and the last start of a place.

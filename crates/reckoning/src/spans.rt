@@ -5,8 +5,7 @@ ghost use Rattle.field.specs.Refusals.{by_number};
 ghost use Rattle.reckoning.specs.Lists.{answer, leaves, Thirteen};
 ghost use Rattle.reckoning.specs.Spans.{spans_told, Unused};
 
-use crate::reckon::reckon;
-use crate::windows::gather::taken;
+use crate::reckon::for_list;
 use field::{Field, Refusal};
 use theory::Span;
 
@@ -15,9 +14,7 @@ fn copy(found: &[Span], list: &mut [Span]) -> usize
     ensures answer { result ≡ length found.now }
     ensures list { list.new ≡ found.now ++ drop (length found.now) list.old }
 {
-    for i in 0..found.len() {
-        list[i] = found[i];
-    }
+    list[..found.len()].copy_from_slice(found);
     found.len()
 }
 
@@ -28,12 +25,6 @@ pub fn spans<F: Field>(field: &F, pace: u16, list: &mut [Span]) -> Result<usize,
     ensures thirteen { Thirteen pace (F.Field.windows field.now) (length list.old) result }
     ensures unused { IfOk result (λ n. Unused (pos pace) (F.Field.windows field.now) (take n list.new)) }
 {
-    let windows = taken(field, pace)?;
-    if list.len() < windows.all().len() {
-        return Err(Refusal::ListTooShort);
-    }
-    match reckon(windows.all(), i64::from(pace)) {
-        None => Err(Refusal::NoOrder),
-        Some(closed) => Ok(copy(closed.found(), list)),
-    }
+    let (_, closed) = for_list(field, pace, list.len())?;
+    Ok(copy(closed.spans(), list))
 }

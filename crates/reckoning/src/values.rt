@@ -1,135 +1,105 @@
 //! The value kept for each place while the earlies fall.
 
-ghost use Rattle.std.specs.Prelude.{◌≡◌, ℕ, ◌<◌, ◌≤◌, ◌&&◌, [], reverse, length, pos, negsuc, ◌+ℤ◌, ◌-ℤ◌, if◌then◌else◌, fold, MatchOption, int_le, int_lt, slice_index_or};
-ghost use Rattle.reckoning.specs.Values.{Falling, Fit, Timed, Kept, lows, rest, head_or, Next, Near, Pace};
+ghost use Rattle.std.specs.Prelude.{◌≡◌, [], map, reverse, pos, ◌+ℤ◌, fold, MatchOption, if◌then◌else◌, int_le, int_lt};
+ghost use Rattle.reckoning.specs.Values.{Timed, Near, Next, rest, kept, lows, moved};
 ghost use Rattle.std.specs.Int.{int_min};
-ghost use Rattle.std.specs.List.{AllByRecursion};
-ghost use Rattle.theory.specs.Orders.{window_at};
-ghost use Rattle.theory.specs.Closed.{greatest_outside};
+ghost use Rattle.std.specs.List.{AllByRecursion, find};
 
-use crate::closed::greatest_outside;
+use crate::closed::Closed;
+use crate::taken::Taken;
+use arrayvec::ArrayVec;
 use field::Window;
-use theory::Span;
 
-/// Where a place begins.
-fn opening(w: Window, pace: i64) -> i64
-    requires timed { Timed w }
-    requires pace { Pace pace }
-    ensures { result ≡ w.late +ℤ pace }
-{
-    w.late + pace
+/// The late of a place, and the value kept for it.
+#[derive(Clone, Copy, Default)]
+pub struct Kept {
+    late: i64,
+    value: i64,
 }
 
-/// No window has come in yet: each value is the late and the pace.
-pub fn begin(windows: &[Window], pace: i64, values: &mut [i64])
-    requires room { length windows.now ≤ length values.old }
-    requires timed { AllByRecursion Timed windows.now }
-    requires pace { Pace pace }
-    ensures { (j : ℕ) → j < length windows.now → slice_index_or values.new j (pos 0) ≡ (window_at windows.now j).late +ℤ pace }
-{
-    for j in 0..windows.len() {
-        values[j] = opening(windows[j], pace);
-    }
-}
-
-/// One step back, if the window `new` counts for the late of w.
-fn moved(w: Window, pace: i64, found: &[Span], new: Window, value: i64) -> i64
-    requires pace { Pace pace }
-    requires falling { Falling (reverse found.now) }
-    requires fit { AllByRecursion Fit found.now }
-    requires near { Near value }
-    ensures { result ≡ (if int_le new.late w.late then greatest_outside (reverse found.now) (value -ℤ pace) else value) }
-{
-    if new.late <= w.late {
-        greatest_outside(found, value - pace)
-    } else {
-        value
-    }
-}
-
-/// The window `new` comes in: one step back for each place whose late is no earlier.
-fn move_back(windows: &[Window], pace: i64, found: &[Span], new: Window, values: &mut [i64])
-    requires room { length windows.now ≤ length values.old }
-    requires pace { Pace pace }
-    requires falling { Falling (reverse found.now) }
-    requires fit { AllByRecursion Fit found.now }
-    requires near { (j : ℕ) → j < length windows.now → Near (slice_index_or values.old j (pos 0)) }
-    ensures { (j : ℕ) → j < length windows.now → slice_index_or values.new j (pos 0) ≡ (if int_le new.late (window_at windows.now j).late then greatest_outside (reverse found.now) (slice_index_or values.old j (pos 0) -ℤ pace) else slice_index_or values.old j (pos 0)) }
-{
-    for j in 0..windows.len() {
-        values[j] = moved(windows[j], pace, found, new, values[j]);
-    }
-}
-
-/// The windows with this early come in.
-pub fn come_in(windows: &[Window], pace: i64, found: &[Span], early: i64, values: &mut [i64])
-    requires room { length windows.now ≤ length values.old }
-    requires few { length windows.now ≤ 64 }
-    requires timed { AllByRecursion Timed windows.now }
-    requires pace { Pace pace }
-    requires falling { Falling (reverse found.now) }
-    requires fit { AllByRecursion Fit found.now }
-    requires kept { Kept pace windows.now (reverse found.now) (early +ℤ pos 1) values.old }
-    ensures { Kept pace windows.now (reverse found.now) early values.new }
-{
-    for g in 0..windows.len() {
-        if windows[g].early == early {
-            move_back(windows, pace, found, windows[g], values);
+impl Kept {
+    /// The value where it counts a window, and else `cap`.
+    fn counted(&self, cap: i64) -> i64
+        ensures { result ≡ (if int_le self.now.value self.now.late then self.now.value else cap) }
+    {
+        if self.value <= self.late {
+            self.value
+        } else {
+            cap
         }
     }
 }
 
-/// The lesser of the value and m, where the value counts a window.
-fn lesser(w: Window, value: i64, m: i64) -> i64
-    ensures { result ≡ (if int_le value w.late then int_min m value else m) }
+/// No window has come in yet: each value is the late and the pace.
+pub fn begin(taken: &Taken) -> ArrayVec<Kept, 64>
+    ensures { result.items ≡ map (λ w. record { late = w.late; value = w.late +ℤ taken.now.pace }) taken.now.windows.items }
 {
-    if value <= w.late && value < m {
-        value
-    } else {
-        m
+    let mut values = ArrayVec::new();
+    for window in taken.windows() {
+        values.push(Kept {
+            late: window.late,
+            value: window.late + taken.pace(),
+        });
+    }
+    values
+}
+
+/// A window with this late comes in: one step back for each place whose late is no earlier.
+fn move_back(taken: &Taken, closed: &Closed, late: i64, values: &mut ArrayVec<Kept, 64>)
+    requires { AllByRecursion (λ k. Near k.value) values.old.items }
+    ensures { values.new.items ≡ map (moved taken.now.pace (reverse closed.now.spans.items) late) values.old.items }
+{
+    let pace = taken.pace();
+    for kept in values.iter_mut() {
+        if late <= kept.late {
+            kept.value = closed.greatest_outside(kept.value - pace);
+        }
+    }
+}
+
+/// The windows with this early come in.
+pub fn come_in(taken: &Taken, closed: &Closed, early: i64, values: &mut ArrayVec<Kept, 64>)
+    requires { values.old.items ≡ kept taken.now.pace taken.now.windows.items (reverse closed.now.spans.items) (early +ℤ pos 1) }
+    ensures { values.new.items ≡ kept taken.now.pace taken.now.windows.items (reverse closed.now.spans.items) early }
+{
+    for window in taken.windows() {
+        if window.early == early {
+            move_back(taken, closed, window.late, values);
+        }
     }
 }
 
 /// The least value that counts a window, or `cap` if that is less.
-pub fn least(windows: &[Window], values: &[i64], cap: i64) -> i64
-    requires room { length windows.now ≤ length values.now }
-    ensures { result ≡ fold int_min cap (lows windows.now values.now) }
+pub fn least(values: &[Kept], cap: i64) -> i64
+    ensures { result ≡ fold int_min cap (lows values.now) }
 {
-    let mut m = cap;
-    for place in 0..windows.len() {
-        m = lesser(windows[place], values[place], m);
-    }
-    m
+    // Not `filter`, which misses the bar of speed here.
+    values.iter().map(|k| k.counted(cap)).fold(cap, i64::min)
 }
 
-/// The window's early, where it is before `bound` and after `top`.
-fn later(w: Window, bound: i64, top: i64) -> i64
-    ensures { result ≡ (if int_lt w.early bound && int_lt top w.early then w.early else top) }
+/// The first early before `bound`.
+fn first_early(windows: &[Window], bound: i64) -> Option<i64>
+    ensures { result ≡ find (λ e. int_lt e bound) (map (λ w. w.early) windows.now) }
 {
-    if w.early < bound && top < w.early {
-        w.early
-    } else {
-        top
-    }
-}
-
-/// The greatest early before `bound`, or a time before all of them.
-fn top_early(windows: &[Window], bound: i64) -> i64
-    requires timed { AllByRecursion Timed windows.now }
-    ensures { result ≡ head_or (negsuc 86400) (rest windows.now bound) }
-{
-    let mut top = -86_401;
-    for i in (0..windows.len()).rev() {
-        top = later(windows[i], bound, top);
-    }
-    top
+    windows.iter().map(|w| w.early).find(|early| *early < bound)
 }
 
 /// The greatest early before `bound`.
 pub fn next_early(windows: &[Window], bound: i64) -> Option<i64>
-    requires timed { AllByRecursion Timed windows.now }
+    requires { AllByRecursion Timed windows.now }
     ensures { MatchOption result (rest windows.now bound ≡ []) (λ e. Next windows.now bound e) }
 {
-    let top = top_early(windows, bound);
-    if top < -86_400 { None } else { Some(top) }
+    let first = first_early(windows, bound)?;
+    // Not `filter`, which misses the bar of speed here.
+    let top = windows
+        .iter()
+        .map(|window| {
+            if window.early < bound {
+                window.early
+            } else {
+                first
+            }
+        })
+        .fold(first, i64::max);
+    Some(top)
 }

@@ -3,14 +3,14 @@
 use field::Window;
 
 /// A place of a field with its window.
-#[derive(Clone, Copy)]
+#[derive(Clone, Copy, Debug, Default, PartialEq, Eq)]
 pub struct Group {
     pub place: usize,
     pub win: Window,
 }
 
 /// A place with its start.
-#[derive(Clone, Copy)]
+#[derive(Clone, Copy, Debug, Default, PartialEq, Eq)]
 pub struct Played {
     pub place: usize,
     pub time: i64,

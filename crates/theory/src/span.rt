@@ -7,7 +7,7 @@ use std::fmt;
 
 /// The times first..last, both included, at which no group starts.
 #[repr(C)]
-#[derive(Clone, Copy)]
+#[derive(Clone, Copy, Debug, Default, PartialEq, Eq)]
 pub struct Span {
     pub first: i64,
     pub last: i64,

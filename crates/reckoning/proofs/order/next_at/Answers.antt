@@ -1,14 +1,13 @@
-use Rattle.std.proofs.Common.{ap, ◌∙◌, w64, rules}
-use Rattle.std.proofs.lemmas.Int.{to_z-of_z}
-use Rattle.reckoning.specs.Order.{chosen_of}
-use Rattle.reckoning.proofs.Playing.{chosen_last, chosen_step, chosen_end}
+use Rattle.std.proofs.Common.{◌≡◌, ap, ◌∙◌, rules}
+use Rattle.std.proofs.lemmas.Iterator.{YieldsList-from_slice}
+use Rattle.std.proofs.lemmas.Iterator.Consumers.{YieldsList-from_filter}
+use Rattle.std.specs.Ordering.{int_cmp}
+use Rattle.std.specs.Option.{option_map}
+use Rattle.reckoning.proofs.GoesFirst.{picked, released, first_released}
 use Rattle.reckoning.proofs.order.next_at.Goals as goal
 
-pub loop-i-init : goal.loop-i-init
-loop-i-init c = chosen_last _ c.args.groups.now c.requires
-
-pub loop-i-preserved : goal.loop-i-preserved
-loop-i-preserved c = chosen_step _ c.args.groups.now c.loop-i.i _ _ c.loop-i-test.true (search rules) c.loop-i.invariant c.first_at-best.ensures
-
 pub returns : goal.returns
-returns c = chosen_end _ c.args.groups.now c.loop-i.i _ c.loop-i-test.false c.loop-i.invariant ∙ ap (λ t. chosen_of t c.args.groups.now) (to_z-of_z w64 c.args.time c.ranges.time)
+returns c = λ l.
+    let p = picked (λ x. x.now) _ int_cmp (λ g. g.win.late) _ (λ x k q h. search rules) _ c.min_by_key.result c.min_by_key.ensures.ran (YieldsList-from_filter _ (released c.args.time) (YieldsList-from_slice c.args.groups.now (cc)) c.filter.ensures.closure (λ x r q k. search rules)) in
+    let m : c.map.result ≡ option_map (λ g. g.place) (option_map (λ x. x.now) c.min_by_key.result) = search rules in
+    m ∙ ap (option_map (λ g. g.place)) (p ∙ first_released c.args.time c.args.groups.now l)

@@ -1,61 +1,80 @@
-use Rattle.std.proofs.Common.{◌≡◌, reverse, length, take, ap, ◌∙◌, arith, w64, to_z, of_z, rules}
+use Rattle.std.proofs.Common.{rules, ℕ, not, eqb, ◌≡◌, ◌<◌, ◌≤◌, length, reverse, w64, ◌+ℤ◌, [], ◌∷◌, ◌++◌, Some, IsSome, to_z, of_z, sym, refl, ap, ◌∙◌, subst, lit<, arith}
 use Rattle.std.specs.Int.{int_max}
 use Rattle.std.proofs.lemmas.Int.{ints, to_z-of_z}
-use Rattle.std.proofs.lemmas.List.{length-take-le}
+use Rattle.arrayvec.proofs.ArrayVecLemmas.{filter-from_retain}
+use Rattle.theory.specs.declared.group.Group.{Group}
 use Rattle.theory.specs.Closed.{least_outside}
-use Rattle.reckoning.specs.Values.{Pace, Fit, Near}
-use Rattle.reckoning.specs.Order.{least_of, played}
-use Rattle.reckoning.proofs.StepsBack.{all_reverse}
+use Rattle.theory.specs.Written.{by_place, without}
+use Rattle.reckoning.specs.Values.{Fit, Near}
+use Rattle.reckoning.specs.Order.{least_of, chosen_of}
+use Rattle.reckoning.proofs.Lookups.{all_reverse}
 use Rattle.reckoning.proofs.Plain.{real}
-use Rattle.reckoning.proofs.Playing.{midway_begin, midway_turn, midway_near, midway_end, start_read, chosen_read, less_left}
+use Rattle.reckoning.proofs.Playing.{midway_begin, midway_turn, midway_read, midway_near, midway_end, fewer, next_read, max_is}
 use Rattle.reckoning.proofs.order.play.Goals as goal
+use Rattle.reckoning.proofs.order.play.Goals.{After-next_at, After-retain}
 
-pub loop-left-init : goal.loop-left-init
-loop-left-init c = (midway_begin _ (reverse c.args.found.now) c.args.windows.now c.args.out.now _ c.requires.timed c.number.ensures, search rules)
+pub loop-early-init : goal.loop-early-init
+loop-early-init c = midway_begin _ _ _ _ _ c.args.taken.now.timed c.new-turns.ensures (c.number-groups.ensures ∙ ap (by_place 0) c.windows.ensures.windows)
 
-start_is : (c : goal.After-groups-in-loop-left-2-1) → to_z w64 (of_z w64 c.least_outside-start.result) ≡ least_outside (reverse c.args.found.now) (int_max (to_z w64 c.loop-left.time-bits) (least_of (take c.loop-left.left c.loop-left.groups)))
+start_is : (c : After-next_at) → to_z w64 (of_z w64 c.least_outside-time.result) ≡ least_outside (reverse c.args.closed.now.spans.items) (int_max (to_z w64 c.loop-early.free-bits) c.in-Some.early)
 start_is c =
-    start_read (reverse c.args.found.now) c.loop-left.groups c.loop-left.left _ _ _ _ _ _
-    (real c.least_early-early.result c.least_early-early.type_inv) c.least_early-early.ensures
-    (real c.released.result c.released.type_inv) c.released.ensures
-    (real c.least_outside-start.result c.least_outside-start.type_inv ∙ c.least_outside-start.ensures)
+    let t = to_z w64 c.loop-early.free-bits in
+    let e : to_z w64 (of_z w64 c.in-Some.early) ≡ c.in-Some.early = to_z-of_z w64 c.in-Some.early (search rules) in
+    let m = real c.max.result c.max.type_inv ∙ c.max.ensures ∙ max_is t (to_z w64 (of_z w64 c.in-Some.early)) ∙ ap (int_max t) e in
+    real c.least_outside-time.result c.least_outside-time.type_inv ∙ c.least_outside-time.ensures ∙ ap (least_outside (reverse c.args.closed.now.spans.items)) m
 
-start_near : (c : goal.After-groups-in-loop-left-2-1) → Near (to_z w64 (of_z w64 c.least_outside-start.result))
+some_left : (c : After-next_at) → least_of c.loop-early.groups.items ≡ Some c.in-Some.early
+some_left c = sym (c.in-Some.ensures ∙ ap least_of c.deref.ensures.0)
+
+next_is : (c : After-next_at) → (h : Group) × (chosen_of (to_z w64 (of_z w64 c.least_outside-time.result)) c.loop-early.groups.items ≡ Some h) × (c.next_at.result ≡ Some h.place)
+next_is c = next_read (reverse c.args.closed.now.spans.items) (to_z w64 c.loop-early.free-bits) c.in-Some.early _ c.loop-early.groups.items c.deref-in-Some.result.now _ (some_left c) (start_is c) c.deref-in-Some.ensures.0 c.next_at.ensures
+
+few_taken : (c : After-next_at) → length c.args.taken.now.windows.items ≤ 64
+few_taken c = subst (λ ws. length ws ≤ 64) c.windows.ensures.windows c.windows.ensures.few
+
+start_near : (c : After-next_at) → Near (to_z w64 (of_z w64 c.least_outside-time.result))
 start_near c =
-    midway_near _ (reverse c.args.found.now) c.args.windows.now c.loop-left.out c.loop-left.done _ (take c.loop-left.left c.loop-left.groups) c.loop-left.left _
-    (all_reverse Fit c.args.found.now c.requires.fit) c.loop-left-test.true c.requires.few c.loop-left.invariant.0 (start_is c)
+    midway_near _ (reverse c.args.closed.now.spans.items) c.args.taken.now.windows.items c.loop-early.turns.items (to_z w64 c.loop-early.free-bits) c.loop-early.groups.items c.in-Some.early _
+    (all_reverse Fit c.args.closed.now.spans.items c.args.closed.now.fit) (few_taken c) c.loop-early.invariant (some_left c) (start_is c)
 
-less_is : (c : goal.After-groups-in-loop-left-2-1) → length (take c.remove-left.result c.remove-left.new.groups) ≡ c.remove-left.result
-less_is c = length-take-le c.remove-left.result c.remove-left.new.groups (let f = c.loop-left.invariant.0.fuel in search rules)
+pub unwrap-place-requires : goal.unwrap-place-requires
+unwrap-place-requires c = let n = next_is c in subst IsSome (sym n.2) refl
 
-pub overflow_add-time : goal.overflow_add-time
-overflow_add-time c = let n = start_near c in search (rules, ints)
+pub push-requires : goal.push-requires
+push-requires c =
+    let n = next_is (goal.at.push-requires c).After-next_at in
+    let l = fewer _ c.loop-early.groups.items n.0 n.1 in
+    let few = few_taken (goal.at.push-requires c).After-next_at in
+    let m : length c.loop-early.turns.items < 64 = omega (arith, l, few, c.loop-early.invariant.fuel) in
+    (lit< tt, m)
 
-pub loop-left-smaller : goal.loop-left-smaller
-loop-left-smaller c =
-    less_left _ (take c.loop-left.left c.loop-left.groups) _ _ c.loop-left.left c.remove-left.result
-    c.loop-left.invariant.0.size c.loop-left-test.true (chosen_read c.loop-left.groups c.loop-left.left _ _ c.next_at-place.ensures) c.remove-left.ensures.rest (less_is c)
+pub overflow_add-free : goal.overflow_add-free
+overflow_add-free c = let n = start_near (goal.at.overflow_add-free c).After-next_at in search (rules, ints)
 
-pub loop-left-preserved : goal.loop-left-preserved
-loop-left-preserved c =
-    let P = to_z w64 (of_z w64 c.args.pace) in
-    let U = to_z w64 (of_z w64 c.least_outside-start.result) in
-    let pace : Pace P = search (rules, ints) in
-    let n = start_near c in (
-      midway_turn P (reverse c.args.found.now) c.args.windows.now c.loop-left.out c.loop-left.done _ (take c.loop-left.left c.loop-left.groups) c.loop-left.left U _ c.next_at-place.result _ c.remove-left.result
-          pace (all_reverse Fit c.args.found.now c.requires.fit) c.requires.timed c.loop-left-test.true (let f = c.loop-left.invariant.0.fuel in search rules) c.loop-left.invariant.0 (start_is c)
-          (chosen_read c.loop-left.groups c.loop-left.left U _ c.next_at-place.ensures) c.remove-left.ensures.rest (less_is c) (omega (arith, ints, n.0, n.1, pace.0, pace.1)),
-      search rules,
-    )
+left_is : (c : After-retain) (i : ℕ) → c.unwrap-place.result ≡ i → c.retain.new.self.items ≡ without i c.loop-early.groups.items
+unfolding without
+left_is c i e = filter-from_retain _ (λ g. not (eqb g.place c.unwrap-place.result)) _ (λ x b f' y k. search rules) _ _ c.retain.ensures.filtered ∙ ap (λ i. without i c.loop-early.groups.items) e
+
+pub loop-early-smaller : goal.loop-early-smaller
+loop-early-smaller c =
+    let n = next_is (goal.at.loop-early-smaller c).After-next_at in
+    let i : c.unwrap-place.result ≡ n.0.place = cc (c.unwrap-place.ensures, n.2) in
+    let r = left_is (goal.at.loop-early-smaller c).After-retain n.0.place i in
+    subst (λ z. length z < length c.loop-early.groups.items) (sym r) (fewer _ c.loop-early.groups.items n.0 n.1)
+
+pub loop-early-preserved : goal.loop-early-preserved
+loop-early-preserved c =
+    let P = c.args.taken.now.pace in
+    let U = to_z w64 (of_z w64 c.least_outside-time.result) in
+    let pace = c.args.taken.now.paced in
+    let k = (goal.at.loop-early-preserved c).After-next_at in
+    let u = start_near k in
+    let n = next_is k in
+    let i : c.unwrap-place.result ≡ n.0.place = cc (c.unwrap-place.ensures, n.2) in
+    midway_read P (reverse c.args.closed.now.spans.items) c.args.taken.now.windows.items _ _ (U +ℤ P) _ _ _
+    (c.push.ensures.items ∙ ap (λ i. c.loop-early.turns.items ++ record { place = i; time = U } ∷ []) i) (to_z-of_z w64 _ (search (rules, ints)) ∙ ap (λ z. U +ℤ z) (real c.pace.result c.pace.type_inv ∙ c.pace.ensures.pace)) (left_is (goal.at.loop-early-preserved c).After-retain n.0.place i)
+    (midway_turn P (reverse c.args.closed.now.spans.items) c.args.taken.now.windows.items c.loop-early.turns.items (to_z w64 c.loop-early.free-bits) c.loop-early.groups.items c.in-Some.early U n.0
+    pace (all_reverse Fit c.args.closed.now.spans.items c.args.closed.now.fit) c.loop-early.invariant (some_left k) (start_is k) n.1)
 
 pub returns : goal.returns
-returns c =
-    let ws = c.args.windows.now in
-    let f = reverse c.args.found.now in
-    let e = midway_end _ f ws c.loop-left.out c.loop-left.done _ _ c.loop-left.left c.loop-left-test.false c.loop-left.invariant.0 in
-    let p = to_z-of_z w64 c.args.pace c.ranges.pace in
-    record {
-      answer = e.0 ∙ ap (λ z. length (played z f ws)) p;
-      list = e.1 ∙ ap (λ z. played z f ws) p;
-      fewer = e.2;
-    }
+returns c = midway_end _ _ _ _ _ c.loop-early.groups.items (sym (c.in_default.ensures ∙ ap least_of c.deref.ensures.0)) c.loop-early.invariant

@@ -2,19 +2,14 @@ use Rattle.std.proofs.Common.{◌≡◌, pos, Err, sym, subst, rules}
 use Rattle.std.proofs.lemmas.Int.{ints}
 use Rattle.theory.specs.Theorem.{First}
 use Rattle.reckoning.specs.Range.{RangeTold}
-use Rattle.reckoning.proofs.Placed.{first_near, last_told, refused_turned, neg_real, real_time}
+use Rattle.reckoning.proofs.Placed.{first_near, last_told, refused_turned, neg_real}
+use Rattle.reckoning.proofs.Plain.{real_time}
 use Rattle.reckoning.proofs.range.range.Goals as goal
 
 pub overflow_sub-result : goal.overflow_sub-result
 overflow_sub-result g c =
     let n = first_near c.args.pace _ c.args.place c.in_ok-turned.turned c.in_ok-turned.ensures in
     search (rules, ints)
-
-pub returns-in_err-first : goal.returns-in_err-first
-returns-in_err-first g c =
-    let ws = g.F.Field.windows c.args.field.now in
-    let i : c.from_residual.result ≡ Err c.in_err-first.field-0.0 = search rules in
-    record { exact = subst (RangeTold c.args.pace ws c.args.place) (sym i) c.in_err-first.ensures }
 
 pub returns-in_err-turned : goal.returns-in_err-turned
 returns-in_err-turned g c =

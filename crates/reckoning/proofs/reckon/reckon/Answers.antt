@@ -1,114 +1,105 @@
-use Rattle.std.proofs.Common.{◌≡◌, reverse, pos, ◌+ℤ◌, Some, None, fold, sym, ap, ◌∙◌, subst, w64, to_z, of_z, rules}
-use Rattle.std.specs.Int.{int_min}
+use Rattle.std.proofs.Common.{◌≡◌, [], reverse, pos, ◌+ℤ◌, ◌-ℤ◌, ◌<ℤ◌, cond, ◌∷◌, ◌++◌, sym, refl, ap, ◌∙◌, subst, w64, to_z, of_z}
+use lib.Signed.{lt_z}
 use Rattle.std.specs.List.{AllByRecursion}
-use Rattle.theory.specs.Method.{forbidden}
+use Rattle.theory.specs.declared.span.Span.{Span}
 use Rattle.theory.proofs.Closed.{ltZ_true, ltZ_false}
 use Rattle.reckoning.proofs.Plain.{real}
-use Rattle.std.proofs.lemmas.Int.{ints, to_z-of_z}
-use Rattle.reckoning.specs.Values.{Pace, Falling, Fit, Kept, lows}
-use Rattle.reckoning.specs.Told.{spans_of}
-use Rattle.reckoning.proofs.Turn.{Along, setting_out, coming, failing, done, next_real, cap_real, capped_high, all_found, still_room, turned_on, near_all, found_few}
+use Rattle.std.proofs.lemmas.List.{reverse-reverse}
+use Rattle.reckoning.specs.Values.{Near, Fit, Next, rest, kept, lows}
+use Rattle.reckoning.proofs.Lookups.{all_reverse}
+use Rattle.reckoning.proofs.Turn.{Along, setting_out, first_kept, coming, failing, done, next_real, capped_high, going_on, stays_grown, joins, joining, grown_is, near_all, least_real}
 use Rattle.reckoning.proofs.reckon.reckon.Goals as goal
 
 pub loop-early-init : goal.loop-early-init
 loop-early-init c =
-    let P = to_z w64 (of_z w64 c.args.pace) in
-    let pace : Pace P = search (rules, ints) in (
-      subst
-          (λ f. Along P c.args.windows.now (pos 86401) f c.begin.new.values)
-          (sym (ap reverse c.none-closed.ensures))
-          (setting_out P pace c.args.windows.now c.requires.timed c.begin.new.values c.begin.ensures),
-      search rules,
-    )
+    let t = c.args.taken.now in
+    let none = sym (ap reverse c.none-closed.ensures) in
+    record {
+      along = subst (Along t.pace t.windows.items (pos 86401)) none (setting_out t.pace t.paced t.windows.items t.timed);
+      values = c.begin-values.ensures ∙ first_kept t.pace t.paced t.windows.items t.timed ∙ ap (λ f. kept t.pace t.windows.items f (pos 86401)) none;
+    }
 
 pub come_in-requires : goal.come_in-requires
 come_in-requires c =
-    let P = to_z w64 (of_z w64 c.args.pace) in
-    let ws = c.args.windows.now in
-    let pace : Pace P = search (rules, ints) in
-    let xs = spans_of c.loop-early.closed in
-    let vs = c.loop-early.values in
-    let q = sym c.found.ensures in
-    let al = c.loop-early.invariant.0 in
-    let n = next_real P ws _ c.in-Some.early (reverse xs) vs al c.in-Some.ensures in
-    record {
-      room = search rules;
-      few = c.requires.few;
-      timed = c.requires.timed;
-      pace = pace;
-      falling = subst (λ f. Falling (reverse f)) q al.falling;
-      fit = subst (AllByRecursion Fit) q (all_found xs al.fit);
-      kept = subst (λ f. Kept P ws (reverse f) (to_z w64 (of_z w64 c.in-Some.early) +ℤ pos 1) vs) q (coming P pace ws c.requires.timed _ _ (reverse xs) vs al n);
-    }
+    let t = c.args.taken.now in
+    let f = reverse c.loop-early.closed.spans.items in
+    let al = c.loop-early.invariant.along in
+    let n = next_real t.pace t.windows.items (to_z w64 c.loop-early.bound-bits) c.in-Some.early f al (subst (λ z. Next z (to_z w64 c.loop-early.bound-bits) c.in-Some.early) c.windows.ensures.windows c.in-Some.ensures) in
+    c.loop-early.invariant.values ∙ coming t.pace t.paced t.windows.items t.timed (to_z w64 c.loop-early.bound-bits) (to_z w64 (of_z w64 c.in-Some.early)) f n
 
-pub returns-then-m-early : goal.returns-then-m-early
-returns-then-m-early c =
-    let P = to_z w64 (of_z w64 c.args.pace) in
+pub returns-then-m-early-clause-told : goal.returns-then-m-early-clause-told
+returns-then-m-early-clause-told c =
+    let t = c.args.taken.now in
+    let f = reverse c.loop-early.closed.spans.items in
+    let al = c.loop-early.invariant.along in
+    let n = next_real t.pace t.windows.items (to_z w64 c.loop-early.bound-bits) c.in-Some.early f al (subst (λ z. Next z (to_z w64 c.loop-early.bound-bits) c.in-Some.early) c.windows.ensures.windows c.in-Some.ensures) in
     let E = to_z w64 (of_z w64 c.in-Some.early) in
     let M = to_z w64 (of_z w64 c.least-m.result) in
-    let ws = c.args.windows.now in
-    let pace : Pace P = search (rules, ints) in
-    let xs = spans_of c.loop-early.closed in
-    let vs = c.loop-early.values in
-    let us = c.come_in.new.values in
-    let al = c.loop-early.invariant.0 in
-    let n = next_real P ws _ c.in-Some.early (reverse xs) vs al c.in-Some.ensures in
-    let k = subst (λ f. Kept P ws (reverse f) E us) c.found.ensures c.come_in.ensures in
-    let e = real c.least-m.result c.least-m.type_inv ∙ c.least-m.ensures ∙ ap (λ z. fold int_min z (lows ws us)) (cap_real P ws _ E (reverse xs) vs pace al n) in
-    let h = ltZ_true M E c.if-m-early.true in
-    record {
-      told = sym (subst (λ z. forbidden z ws ≡ None) (to_z-of_z w64 c.args.pace c.ranges.pace) (failing P pace ws c.requires.timed _ E M (reverse xs) vs us al n k e h));
-      sound = tt;
-    }
+    let e = least_real t.pace c.pace-pace.result t.windows.items (to_z w64 c.loop-early.bound-bits) E c.least-m.result f c.deref.result.now t.paced c.pace-pace.type_inv c.pace-pace.ensures.pace al n (c.deref.ensures.0 ∙ c.come_in.ensures) c.least-m.type_inv c.least-m.ensures in
+    (refl, failing t.pace t.paced t.windows.items t.timed _ E M f al n e (ltZ_true M E c.if-m-early.true))
 
 pub joining-requires : goal.joining-requires
 joining-requires c =
-    let P = to_z w64 (of_z w64 c.args.pace) in
+    let t = c.args.taken.now in
+    let f = reverse c.loop-early.closed.spans.items in
+    let al = c.loop-early.invariant.along in
+    let n = next_real t.pace t.windows.items (to_z w64 c.loop-early.bound-bits) c.in-Some.early f al (subst (λ z. Next z (to_z w64 c.loop-early.bound-bits) c.in-Some.early) c.windows.ensures.windows c.in-Some.ensures) in
     let E = to_z w64 (of_z w64 c.in-Some.early) in
     let M = to_z w64 (of_z w64 c.least-m.result) in
-    let ws = c.args.windows.now in
-    let pace : Pace P = search (rules, ints) in
-    let xs = spans_of c.loop-early.closed in
-    let vs = c.loop-early.values in
-    let us = c.come_in.new.values in
-    let al = c.loop-early.invariant.0 in
-    let n = next_real P ws _ c.in-Some.early (reverse xs) vs al c.in-Some.ensures in
-    let e = real c.least-m.result c.least-m.type_inv ∙ c.least-m.ensures ∙ ap (λ z. fold int_min z (lows ws us)) (cap_real P ws _ E (reverse xs) vs pace al n) in
-    let h = ltZ_false M E c.if-m-early.false in
-    record { near = near_all P _ E M pace n.over n.under al.high (capped_high P E M (lows ws us) e) h }
+    let e = least_real t.pace c.pace-pace.result t.windows.items (to_z w64 c.loop-early.bound-bits) E c.least-m.result f c.deref.result.now t.paced c.pace-pace.type_inv c.pace-pace.ensures.pace al n (c.deref.ensures.0 ∙ c.come_in.ensures) c.least-m.type_inv c.least-m.ensures in
+    let p = real c.pace-pace.result c.pace-pace.type_inv ∙ c.pace-pace.ensures.pace in
+    let k = near_all t.pace _ E M t.paced n.over n.under al.high (capped_high t.pace E M (lows (kept t.pace t.windows.items f E)) e) (ltZ_false M E c.if-m-early.false) in
+    record { near = (k.0, subst Near (sym p) k.1, k.2) }
 
-pub join-requires : goal.join-requires
-join-requires c =
-    let P = to_z w64 (of_z w64 c.args.pace) in
-    let ws = c.args.windows.now in
-    still_room P ws _ c.in-Some.early c.loop-early.closed.spans c.loop-early.closed.len c.loop-early.values (search rules) c.requires.few c.loop-early.invariant.0 c.in-Some.ensures
+pub join-requires-clause-before : goal.join-requires-clause-before
+join-requires-clause-before c =
+    let t = c.args.taken.now in
+    let f = reverse c.loop-early.closed.spans.items in
+    let al = c.loop-early.invariant.along in
+    let n = next_real t.pace t.windows.items (to_z w64 c.loop-early.bound-bits) c.in-Some.early f al (subst (λ z. Next z (to_z w64 c.loop-early.bound-bits) c.in-Some.early) c.windows.ensures.windows c.in-Some.ensures) in
+    let E = to_z w64 (of_z w64 c.in-Some.early) in
+    let M = to_z w64 (of_z w64 c.least-m.result) in
+    let p = real c.pace-pace.result c.pace-pace.type_inv ∙ c.pace-pace.ensures.pace in
+    let j = c.joining.ensures ∙ ap (λ z. let s : Span = record { first = (M -ℤ z) +ℤ pos 1; last = E -ℤ pos 1 } in s) p in
+    let xs = c.loop-early.closed.spans.items in
+    let k = joins t.pace t.paced t.windows.items t.timed _ E M f al n (ltZ_false M E c.if-m-early.false) in
+    subst (λ (s : Span). AllByRecursion (λ o. s.last <ℤ o.last) xs) (sym j)
+    (subst (AllByRecursion (λ o. (E -ℤ pos 1) <ℤ o.last)) (reverse-reverse xs) (all_reverse (λ o. (E -ℤ pos 1) <ℤ o.last) f k.0))
+
+pub join-requires-clause-fit : goal.join-requires-clause-fit
+join-requires-clause-fit c =
+    let t = c.args.taken.now in
+    let f = reverse c.loop-early.closed.spans.items in
+    let al = c.loop-early.invariant.along in
+    let n = next_real t.pace t.windows.items (to_z w64 c.loop-early.bound-bits) c.in-Some.early f al (subst (λ z. Next z (to_z w64 c.loop-early.bound-bits) c.in-Some.early) c.windows.ensures.windows c.in-Some.ensures) in
+    let E = to_z w64 (of_z w64 c.in-Some.early) in
+    let M = to_z w64 (of_z w64 c.least-m.result) in
+    let p = real c.pace-pace.result c.pace-pace.type_inv ∙ c.pace-pace.ensures.pace in
+    let j = c.joining.ensures ∙ ap (λ z. let s : Span = record { first = (M -ℤ z) +ℤ pos 1; last = E -ℤ pos 1 } in s) p in
+    subst Fit (sym j) (joins t.pace t.paced t.windows.items t.timed _ E M f al n (ltZ_false M E c.if-m-early.false)).1
 
 pub loop-early-preserved : goal.loop-early-preserved
 loop-early-preserved c =
-    let P = to_z w64 (of_z w64 c.args.pace) in
+    let t = c.args.taken.now in
+    let f = reverse c.loop-early.closed.spans.items in
+    let al = c.loop-early.invariant.along in
+    let n = next_real t.pace t.windows.items (to_z w64 c.loop-early.bound-bits) c.in-Some.early f al (subst (λ z. Next z (to_z w64 c.loop-early.bound-bits) c.in-Some.early) c.windows.ensures.windows c.in-Some.ensures) in
     let E = to_z w64 (of_z w64 c.in-Some.early) in
     let M = to_z w64 (of_z w64 c.least-m.result) in
-    let ws = c.args.windows.now in
-    let pace : Pace P = search (rules, ints) in
-    let xs = spans_of c.loop-early.closed in
-    let vs = c.loop-early.values in
-    let us = c.come_in.new.values in
-    let al = c.loop-early.invariant.0 in
-    let n = next_real P ws _ c.in-Some.early (reverse xs) vs al c.in-Some.ensures in
-    let k = subst (λ f. Kept P ws (reverse f) E us) c.found.ensures c.come_in.ensures in
-    let e = real c.least-m.result c.least-m.type_inv ∙ c.least-m.ensures ∙ ap (λ z. fold int_min z (lows ws us)) (cap_real P ws _ E (reverse xs) vs pace al n) in
+    let e = least_real t.pace c.pace-pace.result t.windows.items (to_z w64 c.loop-early.bound-bits) E c.least-m.result f c.deref.result.now t.paced c.pace-pace.type_inv c.pace-pace.ensures.pace al n (c.deref.ensures.0 ∙ c.come_in.ensures) c.least-m.type_inv c.least-m.ensures in
+    let p = real c.pace-pace.result c.pace-pace.type_inv ∙ c.pace-pace.ensures.pace in
+    let j = c.joining.ensures ∙ ap (λ z. let s : Span = record { first = (M -ℤ z) +ℤ pos 1; last = E -ℤ pos 1 } in s) p in
+    let xs = c.loop-early.closed.spans.items in
+    let ws = t.windows.items in
     let h = ltZ_false M E c.if-m-early.false in
-    (turned_on P pace ws c.requires.timed _ E M xs (spans_of c.join.new.self) c.joining.result vs us al n k e h c.joining.ensures c.join.ensures, search rules)
-
-pub returns : goal.returns
-returns c =
-    let P = to_z w64 (of_z w64 c.args.pace) in
-    let ws = c.args.windows.now in
-    let pace : Pace P = search (rules, ints) in
-    let xs = spans_of c.loop-early.closed in
-    let vs = c.loop-early.values in
-    let al = c.loop-early.invariant.0 in
+    let s = joining t.pace t.paced ws t.timed M E in
+    let g = grown_is xs c.join.new.self.spans.items s (lt_z s.last s.first) (c.join.ensures ∙ ap (λ (z : Span). cond (lt_z z.last z.first) xs (xs ++ z ∷ [])) j) in
     record {
-      told = sym (subst (λ z. forbidden z ws ≡ Some (reverse xs)) (to_z-of_z w64 c.args.pace c.ranges.pace) (done P pace ws c.requires.timed _ (reverse xs) vs al c.in_default.ensures));
-      sound = (al.falling, all_found xs al.fit, found_few P ws _ xs vs al);
+      along = subst (Along t.pace ws E) (sym g) (going_on t.pace t.paced ws t.timed _ E M f al n e h);
+      values = c.come_in.ensures ∙ stays_grown t.pace t.paced ws t.timed E M f e h ∙ ap (λ z. kept t.pace ws z E) (sym g);
     }
+
+pub returns-clause-told : goal.returns-clause-told
+returns-clause-told c =
+    let t = c.args.taken.now in
+    done t.pace t.paced t.windows.items t.timed _ _ c.loop-early.invariant.along (subst (λ z. rest z (to_z w64 c.loop-early.bound-bits) ≡ []) c.windows.ensures.windows c.in_default.ensures)

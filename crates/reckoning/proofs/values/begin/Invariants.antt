@@ -1,6 +1,6 @@
-use Rattle.std.proofs.Common.{◌≡◌, ℕ, ◌<◌, get_or, pos, ◌+ℤ◌}
-use Rattle.theory.specs.Orders.{window_at}
+use Rattle.std.proofs.Common.{◌≡◌, map, take, ◌+ℤ◌}
+use Rattle.reckoning.specs.declared.values.Kept.{Kept}
 use Rattle.reckoning.proofs.values.begin.Given as goal
 
-abbrev pub invariant-loop-j : goal.invariant-loop-j
-invariant-loop-j l = (k : ℕ) → k < l.j → get_or l.values k (pos 0) ≡ (window_at l.windows k).late +ℤ l.pace
+abbrev pub invariant-loop-window : goal.invariant-loop-window
+invariant-loop-window l = l.values.items ≡ map {B = Kept} (λ w. record { late = w.late; value = w.late +ℤ l.taken.pace }) (take l.window-index l.taken.windows.items)

@@ -1,6 +1,6 @@
-use Rattle.std.proofs.Common.{reverse}
-use Rattle.reckoning.proofs.StepsBack.{Partly}
+use Rattle.std.proofs.Common.{◌≡◌, reverse}
+use Rattle.reckoning.proofs.StepsBack.{partly}
 use Rattle.reckoning.proofs.values.come_in.Given as goal
 
-abbrev pub invariant-loop-g : goal.invariant-loop-g
-invariant-loop-g l = Partly l.pace l.windows (reverse l.found) l.g l.early l.values
+abbrev pub invariant-loop-window : goal.invariant-loop-window
+invariant-loop-window l = l.values.items ≡ partly l.taken.pace l.taken.windows.items (reverse l.closed.spans.items) l.window-index l.early

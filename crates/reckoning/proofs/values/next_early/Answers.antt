@@ -1,28 +1,33 @@
-use Rattle.std.proofs.Common.{List, negsuc, ◌<ℤ◌, sym, ap, ◌∙◌, subst, arith, w64, to_z, of_z}
+use Rattle.std.proofs.Common.{◌≡◌, None, MatchOption, [], map, fold, rules, tests, sym, ap, ◌∙◌, subst, w64, to_z, of_z}
+use lib.Signed.{lt_z}
+use Rattle.std.specs.Int.{int_max}
+use Rattle.std.specs.List.{find}
+use Rattle.std.proofs.lemmas.Int.{to_z-of_z}
+use Rattle.std.proofs.lemmas.Iterator.{YieldsList-from_slice, YieldsList-from_map}
+use Rattle.std.proofs.lemmas.Iterator.Consumers.{fold_from_yields_List}
 use Rattle.field.specs.declared.window.Window.{Window}
-use Rattle.std.specs.List.{AllByRecursion}
-use Rattle.theory.proofs.Closed.{ltZ_true, ltZ_false}
+use Rattle.reckoning.specs.Values.{rest, Next}
 use Rattle.reckoning.proofs.Plain.{real}
-use Rattle.std.proofs.lemmas.Int.{ints, to_z-of_z}
-use Rattle.std.proofs.ByRecursion.{All-weaker}
-use Rattle.reckoning.specs.Values.{Timed, Next, rest, head_or}
-use Rattle.reckoning.proofs.Rest.{none_left, next_left}
+use Rattle.reckoning.proofs.Rest.{none_before, none_left, picked, raised}
 use Rattle.reckoning.proofs.values.next_early.Goals as goal
 
-after_floor : (ws : List Window) → AllByRecursion Timed ws → AllByRecursion (λ w. negsuc 86400 <ℤ w.early) ws
-after_floor ws a = All-weaker Timed (λ w. negsuc 86400 <ℤ w.early) (λ w t. omega (arith, ints, t.0)) ws a
+pub returns-in_err-first : goal.returns-in_err-first
+returns-in_err-first c =
+    let ws = c.args.windows.now in
+    let i : c.from_residual.result ≡ None = search rules in
+    let b = ap (λ z. find (λ x. lt_z x z) (map (λ (w : Window). w.early) ws)) (to_z-of_z w64 c.args.bound c.ranges.bound) in
+    subst (λ o. MatchOption o (rest ws c.args.bound ≡ []) (λ e. Next ws c.args.bound e)) (sym i) (none_left ws c.args.bound (none_before ws c.args.bound (sym (c.in_err-first.ensures ∙ b))))
 
-pub returns-then-top-ltminus86400 : goal.returns-then-top-ltminus86400
-returns-then-top-ltminus86400 c =
-    let e = real c.top_early-top.result c.top_early-top.type_inv in
-    let h = ltZ_true (to_z w64 (of_z w64 c.top_early-top.result)) (negsuc 86399) c.if-top-ltminus86400.true in
-    none_left c.args.windows.now c.args.bound c.top_early-top.result (after_floor c.args.windows.now c.requires.timed) (c.top_early-top.ensures ∙ ap (λ z. head_or (negsuc 86400) (rest c.args.windows.now z)) (to_z-of_z w64 c.args.bound c.ranges.bound)) (omega (arith, ints, e, h))
-
-pub returns-else-top-ltminus86400 : goal.returns-else-top-ltminus86400
-returns-else-top-ltminus86400 c =
-    let e = real c.top_early-top.result c.top_early-top.type_inv in
-    let h = ltZ_false (to_z w64 (of_z w64 c.top_early-top.result)) (negsuc 86399) c.if-top-ltminus86400.false in
-    subst
-    (Next c.args.windows.now c.args.bound)
-    (sym e)
-    (next_left c.args.windows.now c.args.bound c.top_early-top.result (after_floor c.args.windows.now c.requires.timed) (c.top_early-top.ensures ∙ ap (λ z. head_or (negsuc 86400) (rest c.args.windows.now z)) (to_z-of_z w64 c.args.bound c.ranges.bound)) (omega (arith, ints, e, h)))
+pub returns : goal.returns
+returns c =
+    let ws = c.args.windows.now in
+    let t = c.in_ok-first.first in
+    let b = ap (λ z. find (λ x. lt_z x z) (map (λ (w : Window). w.early) ws)) (to_z-of_z w64 c.args.bound c.ranges.bound) in
+    let T = to_z w64 (of_z w64 t) in
+    let k = to_z-of_z w64 t (search rules) in
+    let e =
+    real c.fold-top.result c.fold-top.type_inv
+    ∙ fold_from_yields_List _ int_max _ c.fold-top.result c.fold-top.ensures.ran (YieldsList-from_map _ (raised c.args.bound T) (YieldsList-from_slice ws (cc)) c.map.ensures.closure (λ x r q k. search (rules, tests, to_z-of_z))) (λ a x b q k. search (rules, tests, to_z-of_z))
+    ∙ ap (λ z. fold int_max (to_z w64 (of_z w64 z)) (map (raised c.args.bound T) ws)) k
+    ∙ ap (λ z. fold int_max z (map (raised c.args.bound z) ws)) k in
+    subst (Next ws c.args.bound) (sym e) (picked ws c.args.bound t c.requires (sym (c.in_ok-first.ensures ∙ b)))
