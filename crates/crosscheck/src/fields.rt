@@ -5,7 +5,7 @@ ghost use Rattle.field.specs.Strip.{records};
 ghost use Rattle.field.specs.Windows.{window, window_at};
 ghost use Rattle.std.specs.Prelude.{◌≡◌, map, negsuc, slice_set};
 
-use crate::telling::{no_spans, no_starts, tell_list};
+use crate::telling::{blank_list, tell_list, tell_ranges};
 use field::{Field, Held, Refusal, Reversed, Strip, Window};
 use reckoning::Start;
 use reckoning::order::order;
@@ -93,12 +93,10 @@ const SAMPLES: [Sample; 13] = [
 /// The strip of some groups, numbered from 1.
 fn strip_of(heap: Global, groups: &[(i32, i32)]) -> Result<Vec<u8>, AllocError> {
     let mut bytes = Vec::new(heap);
-    let mut number: u16 = 0;
-    for group in groups {
-        number = number.wrapping_add(1);
+    for (number, (early, late)) in (1u16..).zip(groups) {
         bytes.extend_from_slice(&number.to_be_bytes())?;
-        bytes.extend_from_slice(&group.0.to_be_bytes())?;
-        bytes.extend_from_slice(&group.1.to_be_bytes())?;
+        bytes.extend_from_slice(&early.to_be_bytes())?;
+        bytes.extend_from_slice(&late.to_be_bytes())?;
     }
     Ok(bytes)
 }
@@ -107,24 +105,27 @@ fn strip_of(heap: Global, groups: &[(i32, i32)]) -> Result<Vec<u8>, AllocError> 
 fn tell_field(rt: &HostRuntime, title: &str, pace: u16, bytes: &[u8]) -> io::Result<()> {
     println!(rt; "{title}, pace {pace}")?;
     let strip = Strip { bytes };
-    let mut found = no_spans();
+    let mut found = blank_list();
     let told = spans(&strip, pace, &mut found);
     tell_list(rt, "spans", told, &found)?;
-    let mut starts = no_starts();
+    let mut starts = blank_list();
     let told = order(&strip, pace, &mut starts);
     tell_list(rt, "order", told, &starts)
 }
 
-/// All entries of a list, whatever the call wrote.
-fn tell_whole<T: fmt::Display>(
+/// Has a list written, and tells all its entries, whatever was written.
+fn tell_whole<T: fmt::Display, F: FnOnce(&mut [T]) -> Result<usize, Refusal>>(
     rt: &HostRuntime,
     what: &str,
-    res: Result<usize, Refusal>,
-    list: &[T],
-) -> io::Result<()> {
-    tell_list(rt, what, res, list)?;
+    list: &mut [T],
+    write: F,
+) -> io::Result<()>
+    requires { F.IsAlwaysCallable write }
+{
+    let told = write(list);
+    tell_list(rt, what, told, list)?;
     print!(rt; "  and the list is")?;
-    for entry in list {
+    for entry in list.iter() {
         print!(rt; " {entry}")?;
     }
     println!(rt; "")
@@ -149,16 +150,6 @@ pub fn crowded(rt: &HostRuntime) -> io::Result<()> {
     tell_field(rt, "65 groups 0..86401", 480, bytes.as_slice())
 }
 
-fn spans_into(rt: &HostRuntime, strip: &Strip, list: &mut [Span]) -> io::Result<()> {
-    let told = spans(strip, 480, list);
-    tell_whole(rt, "spans", told, list)
-}
-
-fn order_into(rt: &HostRuntime, strip: &Strip, list: &mut [Start]) -> io::Result<()> {
-    let told = order(strip, 480, list);
-    tell_whole(rt, "order", told, list)
-}
-
 /// A list one entry short is refused and kept; one with more keeps the rest.
 pub fn short_lists(rt: &HostRuntime) -> io::Result<()> {
     println!(rt; "two fixed groups, lists of one and of three entries")?;
@@ -167,15 +158,15 @@ pub fn short_lists(rt: &HostRuntime) -> io::Result<()> {
         bytes: bytes.as_slice(),
     };
     let mark = Span { first: 7, last: 7 };
-    spans_into(rt, &strip, &mut [mark; 1])?;
-    spans_into(rt, &strip, &mut [mark; 3])?;
+    tell_whole(rt, "spans", &mut [mark; 1], |list| spans(&strip, 480, list))?;
+    tell_whole(rt, "spans", &mut [mark; 3], |list| spans(&strip, 480, list))?;
     let mark = Start {
         place: 7,
         number: 7,
         start: 7,
     };
-    order_into(rt, &strip, &mut [mark; 1])?;
-    order_into(rt, &strip, &mut [mark; 3])
+    tell_whole(rt, "order", &mut [mark; 1], |list| order(&strip, 480, list))?;
+    tell_whole(rt, "order", &mut [mark; 3], |list| order(&strip, 480, list))
 }
 
 /// What a pile of layers tells at a place: its meaning is that of its layers, one after another.
@@ -196,23 +187,16 @@ pub fn piles(rt: &HostRuntime) -> io::Result<()> {
     Ok(())
 }
 
-/// First and last start at each of three places, of which the last is outside.
-fn tell_ranges<F: Field>(rt: &HostRuntime, what: &str, field: &F) -> io::Result<()> {
-    for place in 0..3 {
-        match range(field, 480, place) {
-            Err(refusal) => println!(rt; "{what} at {place}: range refused {refusal}")?,
-            Ok(range) => println!(rt; "{what} at {place}: range {}..{}", range.first, range.last)?,
-        }
-    }
-    Ok(())
+fn ranges_of<F: Field>(rt: &HostRuntime, what: &str, field: &F) -> io::Result<()> {
+    tell_ranges(rt, what, |place| range(field, 480, place))
 }
 
 /// First and last starts in a strip and in layers over it.
 pub fn ranges(rt: &HostRuntime) -> io::Result<()> {
     let bytes = strip_of(rt.alloc(), &[(0, 1000), (100, 300)])?;
     let bytes = bytes.as_slice();
-    tell_ranges(rt, "strip", &Strip { bytes })?;
-    tell_ranges(rt, "reversed", &Reversed(Strip { bytes }))?;
-    tell_ranges(rt, "held", &Held::new(Strip { bytes }, 1, 1000, 1000))?;
-    tell_ranges(rt, "clash", &Held::new(Strip { bytes }, 0, 200, 200))
+    ranges_of(rt, "strip", &Strip { bytes })?;
+    ranges_of(rt, "reversed", &Reversed(Strip { bytes }))?;
+    ranges_of(rt, "held", &Held::new(Strip { bytes }, 1, 1000, 1000))?;
+    ranges_of(rt, "clash", &Held::new(Strip { bytes }, 0, 200, 200))
 }

@@ -1,15 +1,14 @@
 //! Examples of sheets: each call with its answer, and what the sheet holds afterwards.
 
-ghost use Rattle.crosscheck.specs.Trials.{SameTrial};
+ghost use Rattle.sheet.specs.Sheets.{SameTrial};
 
-use crate::telling::{no_spans, no_starts, tell_list};
+use crate::telling::{blank_list, first, tell_list, tell_range};
 use field::Refusal;
-use reckoning::Start;
 use sheet::{Row, Sheet, Standing};
 use std::{fmt, io};
-use theory::Span;
 
 /// A call on a sheet. Those that write a list say how many entries it has.
+// Not `sheet::Call`: that may hold a slip, which no table of constants can.
 #[derive(Clone, Copy)]
 pub enum Act {
     Enter(u16, i32, i32),
@@ -163,30 +162,30 @@ fn change(sheet: &mut Sheet, act: Act) -> Option<Result<(), Refusal>>
 
 /// Makes a call that writes a list of so much room.
 fn look(rt: &HostRuntime, sheet: &Sheet, act: Act) -> io::Result<()> {
-    let mut starts = no_starts();
-    let mut spans = no_spans();
+    let mut starts = blank_list();
+    let mut spans = blank_list();
     match act {
         Act::Order(room) => {
-            let told = order_in(sheet, &mut starts, room);
+            let told = sheet.order(first(&mut starts, room));
             tell_list(rt, "order", told, &starts)
         }
         Act::Through(number, time, room) => {
-            let told = through_in(sheet, number, time, &mut starts, room);
+            let told = sheet.through(number, time, first(&mut starts, room));
             tell_list(rt, "through", told, &starts)
         }
         Act::Spans(room) => {
-            let told = spans_in(sheet, &mut spans, room);
+            let told = sheet.spans(first(&mut spans, room));
             tell_list(rt, "spans", told, &spans)
         }
-        Act::Range(number) => match sheet.range(number) {
-            Err(refusal) => println!(rt; "  range refused {refusal}"),
-            Ok(range) => println!(rt; "  range {}..{}", range.first, range.last),
-        },
+        Act::Range(number) => {
+            print!(rt; "  ")?;
+            tell_range(rt, sheet.range(number))
+        }
         _ => Ok(()),
     }
 }
 
-fn tell_row(rt: &HostRuntime, row: Row) -> io::Result<()> {
+fn tell_row(rt: &HostRuntime, row: &Row) -> io::Result<()> {
     print!(rt; "; {} in {}..{}", row.number, row.early, row.late)?;
     match row.standing {
         Standing::Waiting => Ok(()),
@@ -198,42 +197,10 @@ fn tell_row(rt: &HostRuntime, row: Row) -> io::Result<()> {
 /// What the sheet holds.
 pub fn tell_held(rt: &HostRuntime, sheet: &Sheet) -> io::Result<()> {
     print!(rt; "  rows {}, pace {}", sheet.count(), sheet.current_pace())?;
-    for place in 0..sheet.count() {
-        if let Some(row) = sheet.row(place) {
-            tell_row(rt, row)?;
-        }
+    for row in sheet.rows().all() {
+        tell_row(rt, row)?;
     }
     println!(rt; "")
-}
-
-fn order_in(sheet: &Sheet, list: &mut [Start], room: usize) -> Result<usize, Refusal> {
-    if room < list.len() {
-        sheet.order(&mut list[0..room])
-    } else {
-        sheet.order(list)
-    }
-}
-
-fn through_in(
-    sheet: &Sheet,
-    number: u16,
-    time: i32,
-    list: &mut [Start],
-    room: usize,
-) -> Result<usize, Refusal> {
-    if room < list.len() {
-        sheet.through(number, time, &mut list[0..room])
-    } else {
-        sheet.through(number, time, list)
-    }
-}
-
-fn spans_in(sheet: &Sheet, list: &mut [Span], room: usize) -> Result<usize, Refusal> {
-    if room < list.len() {
-        sheet.spans(&mut list[0..room])
-    } else {
-        sheet.spans(list)
-    }
 }
 
 /// Makes a call, and tells its answer and what the sheet then holds.

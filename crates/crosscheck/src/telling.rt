@@ -1,22 +1,19 @@
-//! Lists to be written, and how what was written is told.
+//! Lists to be written, and how what was written or told is printed.
 
 use field::Refusal;
-use reckoning::Start;
+use reckoning::Range;
 use std::{fmt, io};
-use theory::Span;
 
-/// A list of spans that nobody has written yet.
-pub fn no_spans() -> [Span; 64] {
-    [Span { first: 0, last: 0 }; 64]
+/// A list of as many entries as a field may have places, which nobody has written yet.
+// An array: by the rules a call fills a list that it is handed, and answers a count.
+pub fn blank_list<T: Default + Copy>() -> [T; 64] {
+    [T::default(); 64]
 }
 
-/// A list of starts that nobody has written yet.
-pub fn no_starts() -> [Start; 64] {
-    [Start {
-        place: 0,
-        number: 0,
-        start: 0,
-    }; 64]
+/// The first `room` entries of a list, or all where it is shorter.
+pub fn first<T>(list: &mut [T], room: usize) -> &mut [T] {
+    let room = room.min(list.len());
+    &mut list[..room]
 }
 
 /// The entries that a call wrote, or its refusal.
@@ -36,4 +33,27 @@ pub fn tell_list<T: fmt::Display>(
             println!(rt; "")
         }
     }
+}
+
+/// First and last start, or the refusal, at the end of a line.
+pub fn tell_range(rt: &HostRuntime, res: Result<Range, Refusal>) -> io::Result<()> {
+    match res {
+        Err(refusal) => println!(rt; "range refused {refusal}"),
+        Ok(Range { first, last }) => println!(rt; "range {first}..{last}"),
+    }
+}
+
+/// First and last start at each of three places, of which the last is outside.
+pub fn tell_ranges<F: FnMut(usize) -> Result<Range, Refusal>>(
+    rt: &HostRuntime,
+    what: &str,
+    mut range_at: F,
+) -> io::Result<()>
+    requires { F.IsAlwaysCallable range_at }
+{
+    for place in 0..3 {
+        print!(rt; "{what} at {place}: ")?;
+        tell_range(rt, range_at(place))?;
+    }
+    Ok(())
 }

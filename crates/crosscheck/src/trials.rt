@@ -1,20 +1,31 @@
 //! Examples of trials: taken back and kept, with refused calls inside, and slips of other sheets.
 
-ghost use Rattle.crosscheck.specs.Trials.{SameTrial, Takes};
+ghost use Rattle.crosscheck.specs.Trials.{Takes};
+ghost use Rattle.sheet.specs.Sheets.{SameTrial};
 ghost use Rattle.std.specs.Prelude.{◌≡◌};
 
 use crate::sheets::{Act, tell_act, tell_held};
-use crate::telling::{no_spans, no_starts};
+use crate::telling::{blank_list, tell_ranges};
 use field::{Field, Refusal};
 use reckoning::Range;
-use sheet::{Answer, Request, Sheet, Slip};
-use std::io;
+use sheet::{Answer, Refused, Request, Returned, Sheet, Slip};
+use std::{fmt, io};
 
 /// How a trial ends.
+// A case and no closure: it is printed too.
 #[derive(Clone, Copy)]
 enum Ending {
     Keep,
     Back,
+}
+
+impl fmt::Display for Ending {
+    fn fmt<W: fmt::Write>(&self, f: &mut fmt::Formatter<W>) -> fmt::Result {
+        f.write_str(match self {
+            Ending::Keep => "keep",
+            Ending::Back => "back",
+        })
+    }
 }
 
 /// Makes calls inside a trial. What cannot be printed is let go, since the slip must still be handed in.
@@ -48,10 +59,7 @@ fn trial(rt: &HostRuntime, sheet: &mut Sheet, acts: &[Act], ending: Ending) -> i
             let _ = println!(rt; "open");
             inside(rt, sheet, acts);
             hand_in(sheet, slip, ending);
-            match ending {
-                Ending::Keep => println!(rt; "keep")?,
-                Ending::Back => println!(rt; "back")?,
-            }
+            println!(rt; "{ending}")?;
             tell_held(rt, sheet)
         }
     }
@@ -97,7 +105,7 @@ fn exchange(one: &mut Sheet, other: &mut Sheet, twin: &mut Sheet) -> Option<Refu
     let Ok(slip) = one.open() else {
         return None;
     };
-    let Err((refusal, slip)) = other.keep(slip) else {
+    let Err(Returned { refusal, slip }) = other.keep(slip) else {
         return None;
     };
     let Ok(twins) = twin.open() else {
@@ -123,10 +131,14 @@ pub fn slips(rt: &HostRuntime) -> io::Result<()> {
 
 /// Asks the sheet's one door for the range of a place in a field.
 fn ask<F: Field>(sheet: &mut Sheet, field: &F, place: usize) -> Result<Range, Refusal> {
-    let request = Request::Ask { pace: 480, place };
-    match sheet.serve(request, field, &mut no_starts(), &mut no_spans()) {
-        Answer::Ranged { range } => Ok(range),
-        Answer::Refused { refusal } => Err(refusal),
+    let request = Request::Ask {
+        field,
+        pace: 480,
+        place,
+    };
+    match sheet.serve(request, &mut blank_list(), &mut blank_list()) {
+        Ok(Answer::Ranged(range)) => Ok(range),
+        Err(Refused::Alone(refusal)) => Err(refusal),
         _ => unreachable(),
     }
 }
@@ -140,11 +152,6 @@ pub fn asked(rt: &HostRuntime) -> io::Result<()> {
         &[Act::Enter(1, 0, 1000), Act::Enter(2, 100, 300)],
     );
     let mut door = Sheet::blank(rt.alloc(), 2)?;
-    for place in 0..3 {
-        match ask(&mut door, &sheet.rows(), place) {
-            Err(refusal) => println!(rt; "rows at {place}: range refused {refusal}")?,
-            Ok(range) => println!(rt; "rows at {place}: range {}..{}", range.first, range.last)?,
-        }
-    }
-    Ok(())
+    let rows = sheet.rows();
+    tell_ranges(rt, "rows", |place| ask(&mut door, &rows, place))
 }

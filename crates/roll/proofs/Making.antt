@@ -1,48 +1,33 @@
 -- What making the call of a record comes to.
-use Rattle.std.proofs.Common.{◌≡◌, ℕ, Bool, true, false, cond, Some, None, Ok, Err, Option, Result, sym, refl, ap, ◌∙◌, subst, arith}
+use Rattle.std.proofs.Common.{◌≡◌, ℕ, Some, None, Ok, Err, Option, Result, sym, refl, ap, ◌∙◌, subst, arith}
 use Rattle.sheet.specs.declared.call.Call.{Call}
 use Rattle.sheet.specs.declared.sheet.Sheet.{Sheet}
-use Rattle.sheet.specs.Content.{Content}
-use Rattle.sheet.specs.Calls.{change_made}
 use Rattle.sheet.specs.Questions.{after, answered}
-use Rattle.sheet.specs.Trials.{Held, kind, decision}
-use Rattle.sheet.specs.Answers.{Said, done, refusal, refused, said_by}
-use Rattle.sheet.specs.Book.{Lists, no_lists, room, Told, JustDone, Event, History, more}
-use Rattle.sheet.specs.Sheets.{content, saved_content, at_open, holds}
+use Rattle.sheet.specs.Trials.{decision}
+use Rattle.sheet.specs.Answers.{Said, done, said_by}
+use Rattle.sheet.specs.Book.{Lists, no_lists, Event, History, more}
+use Rattle.sheet.specs.Sheets.{content, content_of, at_open, holds}
 use Rattle.sheet.specs.Law.{Lawful, GoesOn}
-use Rattle.sheet.specs.OneCall.{moved, remembered, Outcome, ComesTo}
+use Rattle.sheet.specs.OneCall.{Outcome, ComesTo}
+use Rattle.sheet.proofs.Extending.{trials_open}
+use Rattle.sheet.proofs.Striking.{trials_of}
+use Rattle.sheet.proofs.Plain.{Plain, enter_plain, change_plain, withdraw_plain, pace_plain, call_plain, stand_down_plain, away_plain}
 use Rattle.roll.specs.declared.record.Record.{Record}
 use Rattle.roll.specs.declared.record.Record.TheVariants as code
 use Rattle.roll.specs.Records.{said}
 use Rattle.roll.specs.Playing.{changed, event}
 
--- a call that fills no list, and leaves trials as they are
-record Plain (call : Call) : Type 0 where
-  alone : (n : ℕ) → refused (kind call) n ≡ refusal n
-  lists : (given : Lists) → room call given ≡ 0
-  told : (h : Held) (given : Lists) (a : Said) (left : Lists) → Told h call given a left → JustDone given a left
-  moves : (c : Content) (was : Option Content) → moved (kind call) call c was ≡ change_made call c
-  stays : (c : Content) (was : Option Content) → remembered (kind call) c was ≡ was
-
 plain : (r : Record) → Plain (said r).call
-plain (code.Pace p) = record { alone = λ n. refl; lists = λ given. refl; told = λ h given a left t. t; moves = λ c was. refl; stays = λ c was. refl }
-plain (code.Enter g e l name) = record { alone = λ n. refl; lists = λ given. refl; told = λ h given a left t. t; moves = λ c was. refl; stays = λ c was. refl }
-plain (code.Change g e l) = record { alone = λ n. refl; lists = λ given. refl; told = λ h given a left t. t; moves = λ c was. refl; stays = λ c was. refl }
-plain (code.Withdraw g) = record { alone = λ n. refl; lists = λ given. refl; told = λ h given a left t. t; moves = λ c was. refl; stays = λ c was. refl }
-plain (code.CallUp g u) = record { alone = λ n. refl; lists = λ given. refl; told = λ h given a left t. t; moves = λ c was. refl; stays = λ c was. refl }
-plain (code.StandDown g) = record { alone = λ n. refl; lists = λ given. refl; told = λ h given a left t. t; moves = λ c was. refl; stays = λ c was. refl }
-plain (code.SendAway g) = record { alone = λ n. refl; lists = λ given. refl; told = λ h given a left t. t; moves = λ c was. refl; stays = λ c was. refl }
-
-abbrev trials_of : Option Content → ℕ
-trials_of None = 0
-trials_of (Some c) = 1
-
-trials_open : (b : Bool) (c : Content) → trials_of (cond b (Some c) None) ≡ cond b 1 0
-trials_open true c = refl
-trials_open false c = refl
+plain (code.Pace p) = pace_plain p
+plain (code.Enter g e l name) = enter_plain g e l
+plain (code.Change g e l) = change_plain g e l
+plain (code.Withdraw g) = withdraw_plain g
+plain (code.CallUp g u) = call_plain g u
+plain (code.StandDown g) = stand_down_plain g
+plain (code.SendAway g) = away_plain g
 
 same_trials : (s t : Sheet) → at_open t ≡ at_open s → (holds t).trials ≡ (holds s).trials
-same_trials s t e = sym (trials_open t.trial (saved_content t.saved)) ∙ ap trials_of e ∙ trials_open s.trial (saved_content s.saved)
+same_trials s t e = sym (trials_open t.trial (content_of t.saved)) ∙ ap trials_of e ∙ trials_open s.trial (content_of s.saved)
 
 pub record Made (s : Sheet) (call : Call) (a : Said) (t : Sheet) : Type 0 where
   pub answer : a ≡ said_by (λ (_ : Unit {0}). done) (answered (decision (holds s) call 0) tt)

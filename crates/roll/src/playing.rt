@@ -16,7 +16,7 @@ use crate::fault::{Cause, Fault};
 use crate::record::Record;
 use crate::records::Records;
 use field::Refusal;
-use sheet::{Answer, Call, Sheet};
+use sheet::{Answer, Call, Refused, Sheet};
 
 impl Record<'_> {
     /// The call that a record makes.
@@ -60,16 +60,13 @@ fn make(sheet: &mut Sheet, record: &Record<'_>) -> Result<(), Refusal>
     ensures law { (n : ℕ) (es : History) → Lawful n es sheet.old → Lawful n (more es (event (holds sheet.old) (said «record».now).call)) sheet.new }
 {
     match sheet.perform(record.call(), &mut [], &mut []) {
-        Answer::Done => Ok(()),
-        Answer::Refused { refusal } => Err(refusal),
+        Ok(Answer::Done) => Ok(()),
+        Err(Refused::Alone(refusal)) => Err(refusal),
         // No record opens or ends a trial, or asks for a list or a range.
-        Answer::Opened { slip: _slip } => unreachable(),
-        Answer::Returned {
-            refusal: _,
-            slip: _slip,
-        } => unreachable(),
-        Answer::Counted { count: _ } => unreachable(),
-        Answer::Ranged { range: _ } => unreachable(),
+        Ok(Answer::Opened(_slip)) => unreachable(),
+        Err(Refused::WithSlip(_returned)) => unreachable(),
+        Ok(Answer::Counted(_)) => unreachable(),
+        Ok(Answer::Ranged(_)) => unreachable(),
     }
 }
 

@@ -8,7 +8,7 @@ use Rattle.sheet.specs.Calls.{Call, Enter, Change, Withdraw, Pace, CallUp, Stand
 use Rattle.sheet.specs.Questions.{questions}
 use Rattle.sheet.specs.Trials.{Held, Kind, joins, departs, opens, keeps, backs, tells, kind, decision}
 use Rattle.sheet.specs.Ranges.{GroupBounds}
-use Rattle.sheet.specs.Sheets.{content, saved_content, at_open, holds}
+use Rattle.sheet.specs.Sheets.{content, content_of, at_open, holds}
 use Rattle.sheet.specs.Answers.{Said, range, refused, got}
 use Rattle.sheet.specs.Book.{made, taken_back, marked, held, Lists, room, Passes, FirstNo, Told, Event, History, more, refusal, entry}
 use Rattle.sheet.specs.OneCall.{remembered, Outcome, ComesTo}
@@ -45,7 +45,7 @@ got_told h Spans given a left t = ap got t.0
 
 -- ---- sheet and column
 
-trials_open : (b : Bool) (c : Content) → trials_of (cond b (Some c) None) ≡ cond b 1 0
+pub trials_open : (b : Bool) (c : Content) → trials_of (cond b (Some c) None) ≡ cond b 1 0
 trials_open true c = refl
 trials_open false c = refl
 
@@ -55,12 +55,12 @@ same_held n m c d i j p q r = λ k. record { sheet = p k; content = q k; trials 
 matches : (n : ℕ) (s : Sheet) (col : List Call) → holds s ≡ held n col → BackTo (at_open s) (made (taken_back col)) → Matches (content s) (at_open s) col
 matches n s col h b = record {
   content = ap (λ (x : Held). x.content) h;
-  trials = trials_open s.trial (saved_content s.saved) ∙ ap (λ (x : Held). x.trials) h;
+  trials = trials_open s.trial (content_of s.saved) ∙ ap (λ (x : Held). x.trials) h;
   back = b;
 }
 
 now_holds : (n : ℕ) (t : Sheet) (col : List Call) → t.number ≡ n → Matches (content t) (at_open t) col → holds t ≡ held n col
-now_holds n t col e m = same_held _ _ _ _ _ _ e m.content (sym (trials_open t.trial (saved_content t.saved)) ∙ m.trials)
+now_holds n t col e m = same_held _ _ _ _ _ _ e m.content (sym (trials_open t.trial (content_of t.saved)) ∙ m.trials)
 
 -- ---- one call more
 
@@ -90,7 +90,7 @@ module _ (s : Sheet) (call : Call) (given : Lists) (a : Said) (left : Lists) (t 
           holding = now_holds n t law.column (st ∙ ap (λ (x : Held). x.sheet) law.holding) m;
           met = (law.met, (law.column, law.book, law.holding));
           back = m.back;
-          playable = plays (content t) t.steady t.possible;
+          playable = plays (content t) t.holding.keeps.steady t.holding.keeps.possible;
           thirteen = (law.thirteen, thirteen (Some k) w o);
           range = (law.range, range_told);
         }
@@ -106,7 +106,7 @@ module _ (s : Sheet) (call : Call) (given : Lists) (a : Said) (left : Lists) (t 
           holding = now_holds n t next (st ∙ ap (λ (x : Held). x.sheet) law.holding) m;
           met = (law.met, (law.column, law.book, law.holding));
           back = m.back;
-          playable = plays (content t) t.steady t.possible;
+          playable = plays (content t) t.holding.keeps.steady t.holding.keeps.possible;
           thirteen = (law.thirteen, thirteen None w o);
           range = (law.range, range_told);
         }
@@ -123,4 +123,4 @@ range_told s call given a left t st g e on-it =
 
 pub goes_on : (s : Sheet) (call : Call) (given : Lists) (a : Said) (left : Lists) (t : Sheet) → ComesTo s call given a left t → GoesOn s call given a left t
 goes_on s call given a left t st n es law =
-    grown s call given a left t n es law st.number (range_told s call given a left t st) (decision (holds s) call (room call given)) refl (settled (holds s) call given s.steady) st.outcome
+    grown s call given a left t n es law st.number (range_told s call given a left t st) (decision (holds s) call (room call given)) refl (settled (holds s) call given s.holding.keeps.steady) st.outcome

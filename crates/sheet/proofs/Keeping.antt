@@ -24,7 +24,7 @@ use Rattle.sheet.proofs.Widening.{Eases, wider_play, stands_down, goes_away}
 use Rattle.sheet.proofs.Ascending.{joined_rising, removed_rising, numbers_kept, same_number}
 
 pub kept_by_sheet : (s : Sheet) → Kept (content s)
-kept_by_sheet s = record { sorted = s.sorted; kept = s.kept; steady = s.steady; possible = s.possible }
+kept_by_sheet s = s.holding.keeps
 
 -- as a sheet that holds other rows and another pace owes it
 pub owed : (c : Content) → Kept c → (rs : List Row) (p : ℕ) → rs ≡ c.rows → p ≡ c.pace → Kept (record { rows = rs; pace = p })

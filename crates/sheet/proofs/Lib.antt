@@ -1,4 +1,3 @@
-pub mod Same
 pub mod ToldWindows
 pub mod Searching
 pub mod Passing
@@ -12,7 +11,6 @@ pub mod Widening
 pub mod Ascending
 pub mod Keeping
 pub mod Thirteen
-pub mod Outcomes
 pub mod Listing
 pub mod Striking
 pub mod Settling
@@ -20,6 +18,9 @@ pub mod Ranging
 pub mod Extending
 pub mod Beginning
 pub mod Slips
+pub mod Plain
 pub mod Steps
+pub mod Outcomes
 pub mod Alone
+pub mod Refusing
 pub mod Asking

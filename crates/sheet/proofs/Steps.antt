@@ -13,11 +13,13 @@ use Rattle.sheet.specs.Calls.{Call, Open, Keep, Back, RangeOf, Spans, change_mad
 use Rattle.sheet.specs.Questions.{after, answered, verdict}
 use Rattle.sheet.specs.Trials.{kind, decision}
 use Rattle.sheet.specs.Ranges.{GroupTold}
-use Rattle.sheet.specs.Sheets.{content, at_open, holds}
+use Rattle.sheet.specs.Sheets.{content, at_open, holds, SameTrial}
 use Rattle.sheet.specs.Answers.{Said, done, slip, count, range, refusal, refused, said_by, said_back, ended}
-use Rattle.sheet.specs.Book.{Lists, no_lists, room, FillsStarts, Told}
+use Rattle.sheet.specs.Book.{Lists, room, FillsStarts, Told}
 use Rattle.sheet.specs.Law.{GoesOn}
 use Rattle.sheet.specs.OneCall.{moved, remembered, Outcome, ComesTo}
+use Rattle.sheet.specs.Promises.{Makes}
+use Rattle.sheet.proofs.Plain.{Plain}
 use Rattle.sheet.proofs.Extending.{goes_on}
 
 -- one call by itself, and as one call more
@@ -33,18 +35,18 @@ by_outcome s t asked call given left a e n o =
 
 -- ---- the calls that change
 
-module _ (s t : Sheet) (call : Call) (given : Lists) (a : Said) (alone : (n : ℕ) → refused (kind call) n ≡ refusal n) (told : Told (holds s) call given done given) (moves : moved (kind call) call (content s) (at_open s) ≡ change_made call (content s)) (stays : remembered (kind call) (content s) (at_open s) ≡ at_open s) where
+module _ (s t : Sheet) (call : Call) (plain : Plain call) (given : Lists) (a : Said) where
   done_outcome : (v : Option ℕ) → a ≡ said_by (λ (_ : Unit {0}). done) (answered v tt) → content t ≡ after v (change_made call (content s)) (content s) → at_open t ≡ at_open s → Outcome v s call given a given t
-  done_outcome (Some n) e c w = (e ∙ sym (alone n), refl, c, w)
-  done_outcome None e c w = (subst (λ (x : Said). Told (holds s) call given x given) (sym e) told, c ∙ sym moves, w ∙ sym stays)
+  done_outcome (Some n) e c w = (e ∙ sym (plain.alone n), refl, c, w)
+  done_outcome None e c w = (plain.tells (holds s) given a given (e, refl), c ∙ sym (plain.moves (content s) (at_open s)), w ∙ sym (plain.stays (content s) (at_open s)))
 
-  pub change_goes_on : (asked : Call) → asked ≡ call → a ≡ said_by (λ (_ : Unit {0}). done) (answered (decision (holds s) call (room call given)) tt) → content t ≡ after (decision (holds s) call (room call given)) (change_made call (content s)) (content s) → at_open t ≡ at_open s → t.number ≡ s.number → Both s asked given a given t
-  change_goes_on asked i e c w n = by_outcome s t asked call given given a i n (done_outcome (decision (holds s) call (room call given)) e c w)
+  pub change_goes_on : (asked : Call) → asked ≡ call → a ≡ said_by (λ (_ : Unit {0}). done) (answered (decision (holds s) call 0) tt) → content t ≡ after (decision (holds s) call 0) (change_made call (content s)) (content s) → SameTrial s t → Both s asked given a given t
+  change_goes_on asked i e c w =
+      by_outcome s t asked call given given a i w.number (subst (λ (n : ℕ). Outcome (decision (holds s) call n) s call given a given t) (sym (plain.lists given)) (done_outcome (decision (holds s) call 0) e c w.saved))
 
--- the same of a result, where no lists are handed in
-module _ (s t : Sheet) (call : Call) (r : Result (Unit {0}) Refusal) (alone : (n : ℕ) → refused (kind call) n ≡ refusal n) (told : Told (holds s) call no_lists done no_lists) (moves : moved (kind call) call (content s) (at_open s) ≡ change_made call (content s)) (stays : remembered (kind call) (content s) (at_open s) ≡ at_open s) where
-  pub change_alone : by_number r ≡ answered (decision (holds s) call (room call no_lists)) tt → content t ≡ after (decision (holds s) call (room call no_lists)) (change_made call (content s)) (content s) → at_open t ≡ at_open s → t.number ≡ s.number → Both s call no_lists (said_by (λ (_ : Unit {0}). done) (by_number r)) no_lists t
-  change_alone e c w n = change_goes_on s t call no_lists (said_by (λ (_ : Unit {0}). done) (by_number r)) alone told moves stays call refl (ap (said_by (λ (_ : Unit {0}). done)) e) c w n
+  -- with other lists handed in
+  pub makes_goes_on : (asked : Call) (r : Result (Unit {0}) Refusal) → asked ≡ call → a ≡ said_by (λ (_ : Unit {0}). done) (by_number r) → Makes call s r t → Both s asked given a given t
+  makes_goes_on asked r i e m = change_goes_on asked i (e ∙ ap (said_by (λ (_ : Unit {0}). done)) m.answer) m.held m.trial
 
 -- ---- the trial
 

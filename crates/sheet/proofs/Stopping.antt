@@ -1,22 +1,13 @@
 -- Questions in a row: where they stop, and what it takes to pass them all.
-use Rattle.std.proofs.Common.{◌≡◌, ℕ, Bool, true, false, List, [], ◌∷◌, ◌++◌, ℤ, Some, None, Ok, Err, Option, Result, sym, refl, ap, ◌∙◌, subst, arith}
-use Rattle.std.proofs.lemmas.Bool.{cond-true, cond-false}
+use Rattle.std.proofs.Common.{◌≡◌, ℕ, List, [], ◌∷◌, ◌++◌, ℤ, Some, None, Ok, Err, Option, Result, sym, refl, ap, ◌∙◌, subst, arith}
 use Rattle.field.specs.declared.refusal.Refusal.{Refusal}
 use Rattle.field.proofs.InARow.{no_stays, no_later}
-use Rattle.field.specs.Refusals.{number_of, by_number, Question, question, first_no}
-use Rattle.sheet.specs.Questions.{answered}
+use Rattle.field.specs.Refusals.{number_of, by_number, Question, first_no}
+use Rattle.sheet.specs.Questions.{answered, q_times, q_upright}
 
--- a yes goes on to the next question
-pub yes_then : (q : Question) (qs : List Question) → q.yes ≡ true → first_no qs ≡ None → first_no (q ∷ qs) ≡ None
-yes_then q qs e rest = cond-true q.yes (first_no qs) (Some q.number) e ∙ rest
-
--- the last question decides, once the others are passed
-module _ {X : Type 0} (ps : List Question) (n : ℕ) (b : Bool) (x : X) (none : first_no ps ≡ None) where
-  pub last_no : b ≡ false → ◌≡◌ {A = Result X ℕ} (Err n) (answered (first_no (ps ++ question n b ∷ [])) x)
-  last_no e = sym (ap (λ (o : Option ℕ). answered o x) (no_later ps (question n b ∷ []) none ∙ cond-false b None (Some n) e))
-
-  pub last_yes : (y : X) → y ≡ x → b ≡ true → ◌≡◌ {A = Result X ℕ} (Ok y) (answered (first_no (ps ++ question n b ∷ [])) x)
-  last_yes y i e = ap Ok i ∙ sym (ap (λ (o : Option ℕ). answered o x) (no_later ps (question n b ∷ []) none ∙ cond-true b None (Some n) e))
+-- questions that are passed, and then more that are
+pub all_passed : {X : Type 0} (ps qs : List Question) (y x : X) → first_no ps ≡ None → first_no qs ≡ None → y ≡ x → ◌≡◌ {A = Result X ℕ} (Ok y) (answered (first_no (ps ++ qs)) x)
+all_passed ps qs y x none more e = ap Ok e ∙ sym (ap (λ (o : Option ℕ). answered o x) (no_later ps qs none ∙ more))
 
 -- an answer to some of the questions, by what they decided
 module _ {Y : Type 0} (o : Option ℕ) (y : Y) where
@@ -43,3 +34,7 @@ stops ps qs more r q x y none i e =
 -- what is said of two times is said of the same two as they are passed on
 pub of_both : (P : ℤ → ℤ → Type 0) (d e k l : ℤ) → d ≡ e → k ≡ l → P d k → P e l
 of_both P d e k l a b p = subst (λ (z : ℤ). P e z) b (subst (λ (z : ℤ). P z k) a p)
+
+-- two times that are passed on
+pub window_passed : (d e k l : ℤ) → d ≡ e → k ≡ l → ◌≡◌ {A = Result (Unit {0}) ℕ} (Ok tt) (answered (first_no (q_times d k ∷ q_upright d k ∷ [])) tt) → first_no (q_times e l ∷ q_upright e l ∷ []) ≡ None
+window_passed d e k l x y h = (passed (first_no (q_times e l ∷ q_upright e l ∷ [])) tt tt (of_both (λ a b. ◌≡◌ {A = Result (Unit {0}) ℕ} (Ok tt) (answered (first_no (q_times a b ∷ q_upright a b ∷ [])) tt)) d e k l x y h)).0

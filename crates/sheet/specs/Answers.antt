@@ -1,10 +1,12 @@
 -- What a call answers, a refusal by its number.
 use Rattle.std.specs.Prelude.{ℕ, Some, None, Ok, Err, Option, Result}
-use Rattle.field.specs.declared.refusal.Refusal.{Refusal}
 use Rattle.field.specs.Refusals.{number_of}
 use Rattle.reckoning.specs.declared.ends.Range.{Range}
 use Rattle.sheet.specs.declared.call.Answer.{Answer}
-use Rattle.sheet.specs.declared.call.Answer.TheVariants.{Done, Opened, Counted, Ranged, Refused, Returned}
+use Rattle.sheet.specs.declared.call.Answer.TheVariants.{Done, Opened, Counted, Ranged}
+use Rattle.sheet.specs.declared.call.Refused.{Refused}
+use Rattle.sheet.specs.declared.call.Refused.TheVariants.{Alone, WithSlip}
+use Rattle.sheet.specs.declared.sheet.trial.Returned.{Returned}
 use Rattle.sheet.specs.declared.sheet.trial.Slip.{Slip}
 use Rattle.sheet.specs.Trials.{Kind, joins, departs, opens, keeps, backs, tells}
 
@@ -17,13 +19,13 @@ pub data Said : Type 0 where
   refusal : (n : ℕ) → Said
   returned : (n sheet : ℕ) → Said
 
-abbrev pub said : Answer → Said
-said Done = done
-said (Opened s) = slip s.sheet
-said (Counted n) = count n
-said (Ranged r) = range r
-said (Refused q) = refusal (number_of q)
-said (Returned q s) = returned (number_of q) s.sheet
+abbrev pub said : Result Answer Refused → Said
+said (Ok Done) = done
+said (Ok (Opened s)) = slip s.sheet
+said (Ok (Counted n)) = count n
+said (Ok (Ranged r)) = range r
+said (Err (Alone q)) = refusal (number_of q)
+said (Err (WithSlip p)) = returned (number_of p.refusal) p.slip.sheet
 
 -- a refusal returns its number alone; number 2 also hands the slip back
 abbrev pub refused : Kind → ℕ → Said
@@ -48,9 +50,9 @@ abbrev pub ended : Option ℕ → Slip → Result (Unit {0}) (ℕ × Slip)
 ended None s = Ok tt
 ended (Some n) s = Err (n, s)
 
-abbrev pub slip_by_number : Result (Unit {0}) (Refusal × Slip) → Result (Unit {0}) (ℕ × Slip)
+abbrev pub slip_by_number : Result (Unit {0}) Returned → Result (Unit {0}) (ℕ × Slip)
 slip_by_number (Ok x) = Ok x
-slip_by_number (Err p) = Err (number_of p.0, p.1)
+slip_by_number (Err p) = Err (number_of p.refusal, p.slip)
 
 -- what is said of a result
 abbrev pub said_by : {X : Type 0} → (X → Said) → Result X ℕ → Said

@@ -63,8 +63,11 @@ pub record Lists : Type 0 where
   pub starts : List Start
   pub spans : List Span
 
+abbrev pub lists : List Start → List Span → Lists
+lists xs ys = record { starts = xs; spans = ys }
+
 abbrev pub no_lists : Lists
-no_lists = record { starts = []; spans = [] }
+no_lists = lists [] []
 
 -- the room in the list that a call fills
 abbrev pub room : Call → Lists → ℕ
@@ -114,10 +117,10 @@ JustDone given a left = (a ≡ done) × (left ≡ given)
 
 -- the list of starts is filled from its beginning, its rest kept, and the count answered
 abbrev pub FillsStarts : List Start → Lists → Said → Lists → Type 0
-FillsStarts list given a left = (a ≡ count (length list)) × (left ≡ record { starts = leaves (Ok list) given.starts; spans = given.spans })
+FillsStarts list given a left = (a ≡ count (length list)) × (left ≡ lists (leaves (Ok list) given.starts) given.spans)
 
 abbrev pub FillsSpans : List Span → Lists → Said → Lists → Type 0
-FillsSpans list given a left = (a ≡ count (length list)) × (left ≡ record { starts = given.starts; spans = leaves (Ok list) given.spans })
+FillsSpans list given a left = (a ≡ count (length list)) × (left ≡ lists given.starts (leaves (Ok list) given.spans))
 
 -- what a call that passes every question answers, and how it leaves the lists
 abbrev pub Told : Held → Call → Lists → Said → Lists → Type 0

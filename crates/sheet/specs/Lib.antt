@@ -12,4 +12,5 @@ pub mod Answers
 pub mod Book
 pub mod OneCall
 pub mod Law
+pub mod Promises
 pub mod OneBook

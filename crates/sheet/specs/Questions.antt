@@ -84,13 +84,13 @@ abbrev pub answered : {X : Type 0} → Option ℕ → X → Result X ℕ
 answered None x = Ok x
 answered (Some n) x = Err n
 
+-- what question 13 alone answers
+abbrev pub asked_13 : Content → Result (Unit {0}) ℕ
+asked_13 c = answered (first_no (q_order c ∷ [])) tt
+
 abbrev pub after : {X : Type 0} → Option ℕ → X → X → X
 after None new old = new
 after (Some n) new old = old
-
--- what is held after a call that may change it: the change made, or else what was held
-abbrev pub held_after : Content → Call → Content
-held_after c call = after (verdict c call 0) (change_made call c) c
 
 abbrev pub before_13 : List Question → List Question
 before_13 qs = filter (λ q. ltb q.number 13) qs

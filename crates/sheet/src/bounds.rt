@@ -21,26 +21,26 @@ const LONGEST_PACE: u16 = 3_600;
 pub fn is_in_time(time: i32) -> bool
     ensures { result ≡ in_time time }
 {
-    -FURTHEST <= time && time <= FURTHEST
+    (-FURTHEST..=FURTHEST).contains(&time)
 }
 
 /// Whether a number is one that a group may have.
 pub fn is_number(number: u16) -> bool
     ensures { result ≡ numbered number }
 {
-    1 <= number && number <= HIGHEST_NUMBER
+    (1..=HIGHEST_NUMBER).contains(&number)
 }
 
 /// Whether a pace is one that a sheet may have.
 pub fn is_pace(pace: u16) -> bool
     ensures { result ≡ paced pace }
 {
-    1 <= pace && pace <= LONGEST_PACE
+    (1..=LONGEST_PACE).contains(&pace)
 }
 
 /// Whether a time lies in a window.
 pub fn is_within(window: (i32, i32), time: i32) -> bool
     ensures { result ≡ within window.0 window.1 time }
 {
-    window.0 <= time && time <= window.1
+    (window.0..=window.1).contains(&time)
 }

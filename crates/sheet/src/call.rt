@@ -1,6 +1,9 @@
 //! A call on a sheet as a value, and its answer.
 
-use crate::sheet::Slip;
+ghost use Rattle.sheet.specs.declared.call.Refused.TheVariants.{Alone, WithSlip};
+ghost use Rattle.std.specs.Prelude.{◌≡◌};
+
+use crate::sheet::{Returned, Slip};
 use field::Refusal;
 use reckoning::Range;
 
@@ -22,21 +25,48 @@ pub enum Call {
     Spans,
 }
 
-/// What a call answers.
+/// What a call answers that is not refused.
 pub enum Answer {
     Done,
     /// A trial is open.
-    Opened { slip: Slip },
+    Opened(Slip),
     /// So many entries were written.
-    Counted { count: usize },
-    Ranged { range: Range },
-    Refused { refusal: Refusal },
-    /// Refused, and the slip is handed back.
-    Returned { refusal: Refusal, slip: Slip },
+    Counted(usize),
+    Ranged(Range),
 }
 
-/// A call on the sheet, or range of a place in the field that is handed in beside it.
-pub enum Request {
-    Make { call: Call },
-    Ask { pace: u16, place: usize },
+/// Why a call is refused.
+pub enum Refused {
+    /// By a question.
+    Alone(Refusal),
+    /// By the question of keep and back, and the slip is handed back.
+    WithSlip(Returned),
+}
+
+impl From<Refusal> for Refused {
+    ghost from_gives = { λ q r. r ≡ Alone q };
+
+    fn from(refusal: Refusal) -> Refused {
+        Refused::Alone(refusal)
+    }
+}
+
+impl From<Returned> for Refused {
+    ghost from_gives = { λ p r. r ≡ WithSlip p };
+
+    fn from(returned: Returned) -> Refused {
+        Refused::WithSlip(returned)
+    }
+}
+
+/// A call on the sheet, or range of a place in a field.
+pub enum Request<'a, F> {
+    Make {
+        call: Call,
+    },
+    Ask {
+        field: &'a F,
+        pace: u16,
+        place: usize,
+    },
 }

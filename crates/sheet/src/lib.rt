@@ -13,7 +13,7 @@ pub mod rows;
 pub mod sheet;
 mod table;
 
-pub use call::{Answer, Call, Request};
+pub use call::{Answer, Call, Refused, Request};
 pub use row::{Row, Standing};
 pub use rows::Rows;
-pub use sheet::{Sheet, Slip};
+pub use sheet::{Returned, Sheet, Slip};

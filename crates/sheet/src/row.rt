@@ -7,17 +7,19 @@ ghost use Rattle.std.specs.Prelude.{◌≡◌};
 use field::{Refusal, Window};
 
 /// How far a group has come: it waits, is called to start at a time, or went away at that time.
-#[derive(Clone, Copy)]
+#[derive(Clone, Copy, Debug, Default, PartialEq, Eq)]
 pub enum Standing {
+    #[default]
     Waiting,
     Called(i32),
     Away(i32),
 }
 
 /// A group on the sheet, with its window early..late in seconds from the announced first start.
-#[derive(Clone, Copy)]
+#[derive(Clone, Copy, Debug, Default, PartialEq, Eq)]
 pub struct Row {
     pub number: u16,
+    // Each end by its name, as the rules' calls and records have them: a pair would be one name more at each use.
     pub early: i32,
     pub late: i32,
     pub standing: Standing,
@@ -59,14 +61,14 @@ impl Row {
     }
 
     /// The early and the late of the window that counts.
+    // A pair of 32-bit times, as `Held` takes them.
     pub fn counts(&self) -> (i32, i32)
         ensures early { result.0 ≡ (counts self.now).early }
         ensures late { result.1 ≡ (counts self.now).late }
     {
         match self.standing {
             Standing::Waiting => (self.early, self.late),
-            Standing::Called(time) => (time, time),
-            Standing::Away(time) => (time, time),
+            Standing::Called(time) | Standing::Away(time) => (time, time),
         }
     }
 
@@ -82,12 +84,12 @@ impl Row {
     pub fn stepped(self, step: Step) -> Result<Row, Refusal>
         ensures { by_number result ≡ stepped self step }
     {
+        // One match of standing and step: it is the rules' table, and each line of it is another row.
         match (self.standing, step) {
             (Standing::Waiting, Step::Change { early, late }) => {
                 Ok(Row::waiting(self.number, early, late))
             }
-            (Standing::Waiting, Step::Withdraw) => Ok(self),
-            (Standing::Called(_), Step::Withdraw) => Ok(self),
+            (Standing::Waiting | Standing::Called(_), Step::Withdraw) => Ok(self),
             (Standing::Waiting, Step::CallUp(time)) => Ok(self.stood(Standing::Called(time))),
             (Standing::Called(_), Step::StandDown) => Ok(self.stood(Standing::Waiting)),
             (Standing::Called(time), Step::SendAway) => Ok(self.stood(Standing::Away(time))),

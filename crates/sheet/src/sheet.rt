@@ -1,9 +1,6 @@
 //! The start sheet.
 
-ghost use Rattle.sheet.specs.Content.{numbers_of, paced, playable, rising};
-ghost use Rattle.sheet.specs.Sound.{sound};
-ghost use Rattle.std.specs.Prelude.{◌≡◌, true};
-ghost use Rattle.std.specs.List.{list_all};
+ghost use Rattle.sheet.specs.Kept.{Kept};
 
 use crate::table::Table;
 
@@ -11,35 +8,29 @@ mod asking;
 mod calls;
 mod lists;
 mod performing;
+mod places;
 mod reading;
 mod trial;
 mod trying;
 
-pub use trial::Slip;
+pub use trial::{Returned, Slip};
 
-/// What a sheet held when its trial was opened.
+/// What a sheet holds: up to 64 rows in ascending number, and the pace in seconds that any two starts are apart. No
+/// holding can exist that lacks an order of play of its rows, those already away too.
 #[derive(Drop)]
-struct Saved {
+struct Holding {
     table: Table,
     pace: u16,
-    ghost sorted: { rising (numbers_of table.rows.items) ≡ true },
-    ghost kept: { list_all sound table.rows.items ≡ true },
-    ghost steady: { paced pace ≡ true },
-    ghost possible: { playable table.rows.items pace ≡ true },
+    ghost keeps: { Kept (record { rows = table.rows.items; pace = pace }) },
 }
 
-/// A start sheet: its number, up to 64 rows in ascending number, and the pace in seconds that any two starts are
-/// apart. While a trial is open it also keeps what it held at open. No sheet that can exist lacks an order of play of
-/// its rows, those already away too.
+/// A start sheet: its number, and what it holds. While a trial is open `saved` is what it held at open; that memory is
+/// reserved at the making, so that open cannot fail.
 #[derive(Drop)]
 pub struct Sheet {
     number: u16,
-    table: Table,
-    pace: u16,
+    holding: Holding,
+    // Not an `Option`, since the memory of `saved` stays reserved between trials, nor two cases that hold the same.
     trial: bool,
-    saved: Saved,
-    ghost sorted: { rising (numbers_of table.rows.items) ≡ true },
-    ghost kept: { list_all sound table.rows.items ≡ true },
-    ghost steady: { paced pace ≡ true },
-    ghost possible: { playable table.rows.items pace ≡ true },
+    saved: Holding,
 }

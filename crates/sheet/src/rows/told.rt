@@ -6,7 +6,7 @@ ghost use Rattle.sheet.specs.Standings.{counts, nobody};
 ghost use Rattle.std.specs.List.{list_all};
 ghost use Rattle.std.specs.Prelude.{◌≡◌, true, map, slice_index_or};
 
-use crate::row::{Row, Standing};
+use crate::row::Row;
 use crate::rows::Rows;
 use field::{Field, Numbered, Window};
 
@@ -14,25 +14,23 @@ use field::{Field, Numbered, Window};
 pub(crate) fn row_at(rows: &[Row], place: usize) -> Row
     ensures { result ≡ slice_index_or rows.now place nobody }
 {
-    if place < rows.len() {
-        rows[place]
-    } else {
-        Row {
-            number: 0,
-            early: 0,
-            late: 0,
-            standing: Standing::Waiting,
-        }
-    }
+    rows.get(place).copied().unwrap_or_default()
 }
 
-impl Rows<'_> {
+impl<'a> Rows<'a> {
     /// Sound rows as a field.
-    pub(crate) fn new(rows: &[Row]) -> Rows<'_>
+    pub(crate) fn new(rows: &'a [Row]) -> Rows<'a>
         requires { list_all sound rows.now ≡ true }
         ensures { result.rows.now ≡ rows.now }
     {
         Rows { rows }
+    }
+
+    /// The rows by place.
+    pub fn all(&self) -> &'a [Row]
+        ensures { result.now ≡ self.now.rows.now }
+    {
+        self.rows
     }
 }
 

@@ -10,12 +10,8 @@ ghost use Rattle.sheet.specs.Standings.{nobody};
 
 use crate::row::Row;
 use crate::rows::Rows;
-use crate::sheet::{Saved, Sheet};
-use crate::table::Table;
+use crate::sheet::{Holding, Sheet};
 use std::alloc::{AllocError, Global};
-
-/// The pace of a blank sheet, in seconds.
-const USUAL_PACE: u16 = 480;
 
 impl Sheet {
     /// A sheet with no rows. It alone can fail for want of memory, which it reserves for all that comes, trials too.
@@ -24,16 +20,11 @@ impl Sheet {
         ensures number { IfOk result (λ s. s.number ≡ number) }
         ensures law { IfOk result (λ s. Lawful number start s) }
     {
-        let table = Table::empty(heap)?;
-        let spare = Table::empty(heap)?;
-        let saved = Saved {
-            table: spare,
-            pace: USUAL_PACE,
-        };
+        let holding = Holding::blank(heap)?;
+        let saved = Holding::blank(heap)?;
         Ok(Sheet {
             number,
-            table,
-            pace: USUAL_PACE,
+            holding,
             trial: false,
             saved,
         })
@@ -50,26 +41,21 @@ impl Sheet {
     pub fn count(&self) -> usize
         ensures { result ≡ length (content self.now).rows }
     {
-        self.table.rows().len()
+        self.holding.count()
     }
 
     /// The row at a place, counted from 0 in ascending number.
     pub fn row(&self, place: usize) -> Option<Row>
         ensures { result ≡ (if nat_lt place (length (content self.now).rows) then Some (slice_index_or (content self.now).rows place nobody) else None) }
     {
-        let rows = self.table.rows();
-        if place < rows.len() {
-            Some(rows[place])
-        } else {
-            None
-        }
+        self.holding.table.rows().get(place).copied()
     }
 
     /// The pace in seconds.
     pub fn current_pace(&self) -> u16
         ensures { result ≡ (content self.now).pace }
     {
-        self.pace
+        self.holding.pace
     }
 
     /// Whether a trial is open.
@@ -85,6 +71,6 @@ impl Sheet {
         ensures possible { Playable (content self.now) }
         ensures kept { CanExist (content self.now) }
     {
-        Rows::new(self.table.rows())
+        self.holding.rows()
     }
 }

@@ -1,8 +1,6 @@
-//! The rows of a table by place and by number.
+//! The rows of a table by place.
 
-ghost use Rattle.std.specs.Prelude.{◌≡◌, ◌<◌, ◌≤◌, [], IfOk, if◌then◌else◌, Ok, Err, vec_len, slice_index_or};
-ghost use Rattle.field.specs.Refusals.{by_number};
-ghost use Rattle.sheet.specs.Content.{on, place as place_of, place_for};
+ghost use Rattle.std.specs.Prelude.{◌≡◌, ◌<◌, ◌≤◌, [], IfOk, vec_len, slice_index_or};
 ghost use Rattle.sheet.specs.Standings.{nobody};
 ghost use Rattle.sheet.specs.contracts.row.Row.{the_row as row_of};
 ghost use Rattle.sheet.specs.contracts.table.Table.{the_row as table_of};
@@ -13,7 +11,6 @@ ghost use Rattle.std.specs.Borrow.{follows, sem};
 use crate::bounds::MOST_GROUPS;
 use crate::row::Row;
 use crate::table::Table;
-use field::Refusal;
 use std::alloc::{AllocError, Global};
 
 impl Table {
@@ -32,33 +29,6 @@ impl Table {
         self.rows.as_slice()
     }
 
-    /// The place of the group with a number.
-    pub fn find(&self, number: u16) -> Result<usize, Refusal>
-        ensures { by_number result ≡ (if on number self.now.rows.items then Ok (place_of number self.now.rows.items) else Err 8) }
-    {
-        let rows = self.rows();
-        for place in 0..rows.len() {
-            if rows[place].number == number {
-                return Ok(place);
-            }
-        }
-        Err(Refusal::Unknown)
-    }
-
-    /// The place for a new number, before the first higher one.
-    pub fn place_for(&self, number: u16) -> usize
-        ensures value { result ≡ place_for number self.now.rows.items }
-        ensures inside { result ≤ vec_len self.now.rows }
-    {
-        let rows = self.rows();
-        for place in 0..rows.len() {
-            if rows[place].number > number {
-                return place;
-            }
-        }
-        rows.len()
-    }
-
     /// Lends the row at a place to be changed.
     pub fn row_mut(&mut self, place: usize) -> &mut Row
         requires { place < vec_len self.old.rows }
@@ -74,7 +44,7 @@ impl Table {
         requires room { vec_len self.old.rows < 64 }
         ensures { self.new.rows.items ≡ insert self.old.rows.items place row }
     {
-        let _ = self.rows.insert(place, row);
+        self.rows.insert(place, row).unwrap();
     }
 
     /// Takes the row at a place out. Its memory serves again.
@@ -97,6 +67,6 @@ impl Table {
         requires { self.old.rows.items ≡ [] }
         ensures { self.new.rows.items ≡ other.now.rows.items }
     {
-        let _ = self.rows.extend_from_slice(other.rows());
+        self.rows.extend_from_slice(other.rows()).unwrap();
     }
 }

@@ -1,4 +1,4 @@
-use Rattle.crosscheck.specs.Trials.{SameTrial}
+use Rattle.sheet.specs.Sheets.{SameTrial}
 use Rattle.crosscheck.proofs.trials.inside.Given as goal
 
 abbrev pub invariant-loop-act : goal.invariant-loop-act

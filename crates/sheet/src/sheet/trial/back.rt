@@ -10,25 +10,19 @@ ghost use Rattle.sheet.specs.Trials.{decision};
 ghost use Rattle.std.specs.Option.{unwrap_or};
 ghost use Rattle.std.specs.Prelude.{◌≡◌, None};
 
-use crate::sheet::{Sheet, Slip};
-use field::Refusal;
+use crate::sheet::{Returned, Sheet, Slip};
 
 impl Sheet {
     /// Makes the sheet what it was at open, and ends the trial. A slip that is refused is handed back.
-    pub fn back(&mut self, slip: Slip) -> Result<(), (Refusal, Slip)>
+    pub fn back(&mut self, slip: Slip) -> Result<(), Returned>
         ensures answer { slip_by_number result ≡ ended (decision (holds self.old) (Back slip) 0) slip }
         ensures held { content self.new ≡ after (decision (holds self.old) (Back slip) 0) (unwrap_or (at_open self.old) (content self.old)) (content self.old) }
         ensures saved { at_open self.new ≡ after (decision (holds self.old) (Back slip) 0) None (at_open self.old) }
         ensures number { self.new.number ≡ self.old.number }
         ensures law { GoesOn self.old (Back slip) no_lists (said_back (slip_by_number result)) no_lists self.new }
     {
-        if !self.takes(&slip) {
-            return Err((Refusal::WrongSlip, slip));
-        }
-        let Slip { sheet: _ } = slip;
-        self.table.clear();
-        self.pace = self.saved.pace;
-        self.table.fill(&self.saved.table);
+        self.spend(slip)?;
+        self.holding.copy_from(&self.saved);
         self.trial = false;
         Ok(())
     }

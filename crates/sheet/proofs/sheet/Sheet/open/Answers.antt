@@ -1,27 +1,13 @@
-use Rattle.std.proofs.Common.{ℕ, List, [], Some, Option, sym, refl, ap, ◌∙◌}
-use Rattle.sheet.specs.declared.row.Row.{Row}
+use Rattle.std.proofs.Common.{ℕ, [], Some, Option, sym, refl, ap, ◌∙◌}
 use Rattle.sheet.specs.declared.sheet.trial.Slip.{Slip}
 use Rattle.sheet.specs.Answers.{slip, said_by}
 use Rattle.sheet.specs.Book.{no_lists}
-use Rattle.sheet.specs.Calls.{Open, with_rows}
+use Rattle.sheet.specs.Calls.{Open}
 use Rattle.sheet.specs.Questions.{after, answered}
 use Rattle.sheet.specs.Sheets.{at_open, content}
-use Rattle.sheet.proofs.Keeping.{none_kept, owed}
 use Rattle.sheet.proofs.Slips.{in_trial, outside_trial}
 use Rattle.sheet.proofs.Steps.{open_goes_on}
 use Rattle.sheet.proofs.sheet.Sheet.open.Goals as goal
-
-pub invariant_of-self : goal.invariant_of-self
-invariant_of-self c =
-    let s = c.args.self.now in
-    let o = owed _ (none_kept s.saved.pace s.saved.steady) _ s.saved.pace c.clear.ensures refl in
-    (o.sorted, (o.kept, (o.steady, (o.possible, tt))))
-
-pub invariant_of-self-2 : goal.invariant_of-self-2
-invariant_of-self-2 c =
-    let s = c.args.self.now in
-    let o = owed _ (none_kept s.pace s.steady) _ s.pace c.clear.ensures refl in
-    record { sorted = o.sorted; kept = o.kept; steady = o.steady; possible = o.possible }
 
 pub returns-then-self : goal.returns-then-self
 returns-then-self c =
@@ -40,5 +26,5 @@ returns c =
     let v = outside_trial s [] c.if-self.false in
     let p : Slip = record { sheet = s.number } in
     let answer = sym (ap (λ (o : Option ℕ). answered o p) v) in
-    let saved = ap (λ (rs : List Row). Some (with_rows k rs)) c.fill.ensures ∙ sym (ap (λ (o : Option ℕ). after o (Some k) (at_open s)) v) in
+    let saved = ap Some c.copy_from.ensures ∙ sym (ap (λ (o : Option ℕ). after o (Some k) (at_open s)) v) in
     record { answer = answer; held = refl; saved = saved; number = refl; law = (open_goes_on s _ no_lists _ Open refl (ap (said_by (λ (x : Slip). slip x.sheet)) answer) refl saved refl).law }

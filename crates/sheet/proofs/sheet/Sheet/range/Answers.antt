@@ -6,6 +6,7 @@ use Rattle.sheet.specs.Calls.{RangeOf}
 use Rattle.sheet.specs.Content.{on, place, windows_of}
 use Rattle.sheet.specs.Ranges.{GroupTold}
 use Rattle.sheet.specs.Sheets.{content}
+use Rattle.sheet.proofs.Playing.{plays}
 use Rattle.sheet.proofs.Ranging.{group_told}
 use Rattle.sheet.proofs.Steps.{range_goes_on}
 use Rattle.sheet.proofs.Tried.{few}
@@ -28,6 +29,6 @@ returns c =
     let g = c.args.number in
     let eight : on g rs ≡ true = search rules in
     let at : c.in_ok-place.place ≡ place g rs = search rules in
-    let found = subst (λ (us : List Row). RangeTold s.pace (windows_of us) c.in_ok-place.place c.range.result) c.rows.ensures.rows c.range.ensures.exact in
-    let told = group_told (content s) g s.steady (few s) s.kept c.rows.ensures.possible eight c.range.result (subst (λ (i : ℕ). RangeTold s.pace (windows_of rs) i c.range.result) at found) in
+    let found = subst (λ (us : List Row). RangeTold s.holding.pace (windows_of us) c.in_ok-place.place c.range.result) c.rows.ensures c.range.ensures.exact in
+    let told = group_told (content s) g s.holding.keeps.steady (few s) s.holding.keeps.kept (plays (content s) s.holding.keeps.steady s.holding.keeps.possible) eight c.range.result (subst (λ (i : ℕ). RangeTold s.holding.pace (windows_of rs) i c.range.result) at found) in
     record { exact = told; law = (range_goes_on s no_lists _ (RangeOf g) g c.range.result refl told refl).law }

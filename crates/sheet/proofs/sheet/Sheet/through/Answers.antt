@@ -11,6 +11,7 @@ use Rattle.sheet.specs.Answers.{count, said_by}
 use Rattle.sheet.specs.Calls.{Through, change_made}
 use Rattle.sheet.specs.Content.{numbers_of, order_of, place, row, windows_of}
 use Rattle.sheet.specs.Questions.{answered, q_inside, q_list, q_on, q_order, q_time, verdict}
+use Rattle.sheet.specs.Book.{lists}
 use Rattle.sheet.specs.Sheets.{content}
 use Rattle.field.proofs.Same.{same_window}
 use Rattle.field.specs.Windows.{window}
@@ -42,12 +43,11 @@ returns-in_err-place c =
     let told = said ∙ sym (counted (verdict k (Through g t) room) xs) in
     let left = sym (ap (λ (o : Option ℕ). leaves (answered o xs) c.args.list.now) v) in
     record {
-      answer = told;
-      list = left;
-      law = (starts_go_on s (Through g t) xs (record { starts = c.args.list.now; spans = [] }) _ _ (λ n. refl) (λ b ls t. t) refl refl (Through g t) refl (ap (said_by count) told) left).law;
+      writes = record { answer = told; list = left };
+      law = (starts_go_on s (Through g t) xs (lists c.args.list.now []) _ _ (λ n. refl) (λ b ls t. t) refl refl (Through g t) refl (ap (said_by count) told) left).law;
       held = refl;
-      thirteen = through_13 k s.steady r (length xs) g t room said;
-      plays = subst (λ (z : Result ℕ Refusal). IfOk z (λ n. Plays (pos s.pace) (windows_of new.rows) (take n c.args.list.now))) (sym i) tt;
+      thirteen = through_13 k s.holding.keeps.steady r (length xs) g t room said;
+      plays = subst (λ (z : Result ℕ Refusal). IfOk z (λ n. Plays (pos s.holding.pace) (windows_of new.rows) (take n c.args.list.now))) (sym i) tt;
     }
 
 pub returns : goal.returns
@@ -64,17 +64,16 @@ returns c =
     let x = to_z-of_z w32 t c.ranges.time in
     let yes = subst (λ (u : ℤ). ◌≡◌ {A = Result ℕ ℕ} (Ok c.in_ok-place.place) (answered (first_no (q_time u ∷ q_on g rs ∷ q_inside g u rs ∷ [])) (place g rs))) x c.in_ok-place.ensures in
     let p = passed (first_no (q_time t ∷ q_on g rs ∷ q_inside g t rs ∷ [])) (place g rs) c.in_ok-place.place yes in
-    let h = c.new.ensures in
-    let below = ap (λ (z : Rows). z.rows.now) h.0 ∙ c.rows.ensures.rows in
+    let h = c.new-held.ensures in
+    let below = ap (λ (z : Rows). z.rows.now) h.0 ∙ c.rows.ensures in
     let windows = held_windows rs _ (place g rs) _ (stood (row g rs) (Called t)) _ below (h.1 ∙ p.1) (h.2 ∙ same_window _ (window t t) x x) in
     let told = held_listed k (kept_by_sheet s) (few s) g t room p.0 _ _ windows (ap numbers_of below) in
     let said = c.order.ensures.answer ∙ ap answer told in
     let left = c.order.ensures.list ∙ ap (λ o. leaves o before) told in
     record {
-      answer = said;
-      list = left;
-      law = (starts_go_on s (Through g t) xs (record { starts = before; spans = [] }) _ _ (λ n. refl) (λ b ls t. t) refl refl (Through g t) refl (ap (said_by count) said) left).law;
+      writes = record { answer = said; list = left };
+      law = (starts_go_on s (Through g t) xs (lists before []) _ _ (λ n. refl) (λ b ls t. t) refl refl (Through g t) refl (ap (said_by count) said) left).law;
       held = refl;
-      thirteen = through_13 k s.steady c.order.result (length xs) g t room (said ∙ counted (verdict k (Through g t) room) xs);
-      plays = subst (λ (ws : List Window). IfOk c.order.result (λ n. Plays (pos s.pace) ws (take n c.order.new.list))) windows c.order.ensures.plays;
+      thirteen = through_13 k s.holding.keeps.steady c.order.result (length xs) g t room (said ∙ counted (verdict k (Through g t) room) xs);
+      plays = subst (λ (ws : List Window). IfOk c.order.result (λ n. Plays (pos s.holding.pace) ws (take n c.order.new.list))) windows c.order.ensures.plays;
     }
