@@ -1,12 +1,17 @@
 -- What stands on a page, and what a list gets of it.
-use Rattle.std.specs.Prelude.{ℕ, List, [], ◌∷◌, length, take, Result, nat_le}
+use Rattle.std.specs.Prelude.{ℕ, ◌+◌, ◌≤◌, List, [], ◌∷◌, length, Result, nat_le}
 use Rattle.field.specs.Refusals.{Question, question, first_no}
 use Rattle.sheet.specs.Questions.{answered}
 use Rattle.page.specs.declared.page.Page.{Page}
+use Rattle.page.specs.Room.{most}
 
--- the text from the beginning to the end of what was added
+-- what was added, from the beginning to the end
 abbrev pub text : Page → List ℕ
-text p = take p.len p.bytes
+text p = p.bytes.items
+
+-- these bytes fit after the text
+abbrev pub HasRoom : Page → List ℕ → Type 0
+HasRoom p bytes = length (text p) + length bytes ≤ most
 
 -- 12: is the list long enough for so many bytes?
 abbrev pub q_list : List ℕ → ℕ → Question

@@ -1,7 +1,9 @@
 //! A page, whose text is what was added to it so far.
 
-ghost use Rattle.std.specs.Prelude.{◌≤◌};
+ghost use Rattle.std.specs.Prelude.{◌≤◌, length};
 ghost use Rattle.page.specs.Room.{most};
+
+use arrayvec::ArrayVec;
 
 mod writing;
 
@@ -11,7 +13,6 @@ pub const ROOM: usize = 5760;
 /// A text of at most 5,760 bytes.
 #[derive(Drop)]
 pub struct Page {
-    bytes: [u8; ROOM],
-    len: usize,
-    ghost ok: { len ≤ most },
+    bytes: ArrayVec<u8, ROOM>,
+    ghost ok: { length bytes.items ≤ most },
 }

@@ -1,4 +1,3 @@
-pub mod Bytes
 pub mod Whole
 pub mod Following
 pub mod ShortNames
@@ -9,5 +8,4 @@ pub mod Ending
 pub mod Loosening
 pub mod Places
 pub mod Round
-pub mod Adding
 pub mod Wrote

@@ -6,7 +6,7 @@ use lib.Signed.{mag, le_z}
 use Rattle.std.proofs.lemmas.List.{length-map, map-append}
 use Rattle.std.proofs.lemmas.Int.{ints}
 use Rattle.std.proofs.lemmas.Bool.{and_parts, and_from, leb-true, le-leb, lt-ltb, le-ltb}
-use Rattle.std.specs.List.{list_all}
+use Rattle.std.specs.List.{flat_map, list_all}
 use Rattle.field.specs.Refusals.{first_no}
 use Rattle.field.proofs.InARow.{no_no}
 use Rattle.theory.specs.Orders.{In}
@@ -225,22 +225,22 @@ module _ (n : ℕ) (c : Content) (exists : CanExist c) where
 
   -- ---- all groups
 
-  all_enter : (ds ts : List Row) → c.rows ≡ ds ++ ts → (tail : List ℕ) (k : Held) → Ends (with (map as_waiting c.rows)) tail k → Ends (with (map as_waiting ds)) (written.joined (map entry ts) ++ tail) k
+  all_enter : (ds ts : List Row) → c.rows ≡ ds ++ ts → (tail : List ℕ) (k : Held) → Ends (with (map as_waiting c.rows)) tail k → Ends (with (map as_waiting ds)) (flat_map entry ts ++ tail) k
   all_enter ds [] whole tail k more = subst (λ (rs : List Row). Ends (with (map as_waiting rs)) tail k) (whole ∙ append_none ds) more
   all_enter ds (r ∷ ts) whole tail k more =
-      subst (λ (bs : List ℕ). Ends (with (map as_waiting ds)) bs k) (sym (append_assoc (entry r) (written.joined (map entry ts)) tail))
-      (enters ds r ts whole (written.joined (map entry ts) ++ tail) k (all_enter (ds ++ r ∷ []) ts (whole ∙ sym (shift ds r ts)) tail k more))
+      subst (λ (bs : List ℕ). Ends (with (map as_waiting ds)) bs k) (sym (append_assoc (entry r) (flat_map entry ts) tail))
+      (enters ds r ts whole (flat_map entry ts ++ tail) k (all_enter (ds ++ r ∷ []) ts (whole ∙ sym (shift ds r ts)) tail k more))
 
-  all_stand : (ds ts : List Row) → c.rows ≡ ds ++ ts → Ends (with (ds ++ map as_waiting ts)) (written.joined (map stand ts)) (with c.rows)
+  all_stand : (ds ts : List Row) → c.rows ≡ ds ++ ts → Ends (with (ds ++ map as_waiting ts)) (flat_map stand ts) (with c.rows)
   all_stand ds [] whole = subst (λ (rs : List Row). Ends (with rs) [] (with c.rows)) whole (ends (with c.rows))
   all_stand ds (r ∷ ts) whole =
-      stands ds r ts whole r.standing refl (written.joined (map stand ts)) (with c.rows)
-      (subst (λ (rs : List Row). Ends (with rs) (written.joined (map stand ts)) (with c.rows)) (shift ds r (map as_waiting ts)) (all_stand (ds ++ r ∷ []) ts (whole ∙ sym (shift ds r ts))))
+      stands ds r ts whole r.standing refl (flat_map stand ts) (with c.rows)
+      (subst (λ (rs : List Row). Ends (with rs) (flat_map stand ts) (with c.rows)) (shift ds r (map as_waiting ts)) (all_stand (ds ++ r ∷ []) ts (whole ∙ sym (shift ds r ts))))
 
   -- ---- the pace, and then the groups
 
   abbrev groups : List ℕ
-  groups = written.joined (map entry c.rows) ++ written.joined (map stand c.rows)
+  groups = flat_map entry c.rows ++ flat_map stand c.rows
 
   pace_passes : decision (outside_trial n blank) (Pace c.pace) 0 ≡ None
   pace_passes = no_no (asked (outside_trial n blank) (Pace c.pace) 0) (kept.steady, (none_play c.pace, tt))
@@ -249,15 +249,15 @@ module _ (n : ℕ) (c : Content) (exists : CanExist c) where
   pace_fits = let h = leb-true c.pace 3600 (and_parts (leb 1 c.pace) (leb c.pace 3600) kept.steady).1 in omega arith
 
   records_end : Ends (outside_trial n blank) (pace_record c.pace ++ groups) (outside_trial n c)
-  records_end = ends_step (pace_record c.pace) groups _ (outside_trial n blank) (outside_trial n c) (pace_encodes c.pace pace_fits) pace_passes (all_enter [] c.rows refl (written.joined (map stand c.rows)) (outside_trial n c) (all_stand [] c.rows refl))
+  records_end = ends_step (pace_record c.pace) groups _ (outside_trial n blank) (outside_trial n c) (pace_encodes c.pace pace_fits) pace_passes (all_enter [] c.rows refl (flat_map stand c.rows) (outside_trial n c) (all_stand [] c.rows refl))
 
 -- ---- the roll as a whole
 
-joined_short : (f : Row → List ℕ) → ((r : Row) → length (f r) ≤ 12) → (rs : List Row) → length (written.joined (map f rs)) ≤ 12 * length rs
-joined_short f h [] = omega arith
-joined_short f h (r ∷ rs) =
-    let a = length-append (f r) (written.joined (map f rs)) in
-    let b = joined_short f h rs in
+rows_short : (f : Row → List ℕ) → ((r : Row) → length (f r) ≤ 12) → (rs : List Row) → length (flat_map f rs) ≤ 12 * length rs
+rows_short f h [] = omega arith
+rows_short f h (r ∷ rs) =
+    let a = length-append (f r) (flat_map f rs) in
+    let b = rows_short f h rs in
     let d = h r in
     omega arith
 
@@ -269,17 +269,17 @@ stand_short r = go r.standing
     go (Called t) = omega arith
     go (Away t) = omega arith
 
-pub entries_short : (rs : List Row) → length (written.joined (map entry rs)) ≤ 12 * length rs
-entries_short rs = joined_short entry (λ r. omega arith) rs
+pub entries_short : (rs : List Row) → length (flat_map entry rs) ≤ 12 * length rs
+entries_short rs = rows_short entry (λ r. omega arith) rs
 
-pub stands_short : (rs : List Row) → length (written.joined (map stand rs)) ≤ 12 * length rs
-stands_short rs = joined_short stand stand_short rs
+pub stands_short : (rs : List Row) → length (flat_map stand rs) ≤ 12 * length rs
+stands_short rs = rows_short stand stand_short rs
 
 written_short : (c : Content) → length c.rows ≤ 64 → length (written.written c) ≤ 1545
 written_short c few =
     let a = entries_short c.rows in
     let b = stands_short c.rows in
-    let d = length-append (written.joined (map entry c.rows)) (written.joined (map stand c.rows)) in
+    let d = length-append (flat_map entry c.rows) (flat_map stand c.rows) in
     omega arith
 
 begins_well : (c : Content) → length c.rows ≤ 64 → first_no (roll.questions (written.written c)) ≡ None

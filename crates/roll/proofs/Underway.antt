@@ -1,5 +1,5 @@
 -- A roll while it is played.
-use Rattle.std.proofs.Common.{◌≡◌, ℕ, List, Some, None, Ok, Err, Option, Result, sym, refl, ap, ◌∙◌, subst, arith}
+use Rattle.std.proofs.Common.{◌≡◌, ℕ, MatchResult, IsErrAnd, List, Some, None, Ok, Err, Option, Result, sym, refl, ap, ◌∙◌, subst, arith}
 use Rattle.sheet.specs.declared.call.Call.{Call}
 use Rattle.sheet.specs.declared.sheet.Sheet.{Sheet}
 use Rattle.sheet.specs.Questions.{after, answered}
@@ -7,8 +7,12 @@ use Rattle.sheet.specs.Trials.{Held, decision}
 use Rattle.sheet.specs.Book.{History, more}
 use Rattle.sheet.specs.Law.{Lawful}
 use Rattle.sheet.specs.Sheets.{at_open, holds}
-use Rattle.roll.specs.Faults.{Named, refused}
-use Rattle.roll.specs.Meaning.{Placed, Meaning, over, followed, meaning}
+use Rattle.field.specs.declared.refusal.Refusal.{Refusal}
+use Rattle.field.specs.Refusals.{by_number, number_of}
+use Rattle.roll.specs.declared.fault.Fault.{Fault}
+use Rattle.roll.specs.declared.records.Entry.{Entry}
+use Rattle.roll.specs.Faults.{Named, named, refused}
+use Rattle.roll.specs.Meaning.{Placed, Meaning, over, followed, heard, meaning, placed}
 use Rattle.roll.specs.Playing.{Outcome, by_no, changed, event, logged, played, playing}
 
 -- the roll was begun on the sheet s, which has become t, and this is left of it
@@ -38,6 +42,14 @@ finishes s roll t f u = record {
   saved = u.saved;
   law = λ n es was. let w = u.law n es was in subst (λ (h : History). Lawful n h t) (sym w.2) w.1;
 }
+
+-- what a reader tells of it: a fault ends it, and a record is followed by the rest
+module _ (s : Sheet) (roll : List ℕ) (t : Sheet) (m rest : Meaning) (said : Result Entry Fault) (under : Underway s roll t m) (told : m ≡ heard (Some said) rest) where
+  pub at_fault : (f : Fault) → said ≡ Err f → Ended s roll t (Some (named f))
+  at_fault f is = finishes s roll t (Some (named f)) (goes_on s roll t m (over (Some (named f))) (told ∙ ap (λ (r : Result Entry Fault). heard (Some r) rest) is) under)
+
+  pub at_record : (e : Entry) → said ≡ Ok e → Underway s roll t (followed (placed e) rest)
+  at_record e is = goes_on s roll t m (followed (placed e) rest) (told ∙ ap (λ (r : Result Entry Fault). heard (Some r) rest) is) under
 
 -- what the call of a record made of the sheet
 pub record Called (t u : Sheet) (call : Call) : Type 0 where
@@ -79,7 +91,7 @@ module _ (s : Sheet) (roll : List ℕ) (t u : Sheet) (p : Placed) (m : Meaning) 
       }
 
   -- the call is refused, and the roll stops
-  pub stops : (n : ℕ) → ◌≡◌ {A = Result (Unit {0}) ℕ} (Err n) (answered (decision (holds t) call 0) tt) → Ended s roll u (Some (refused n p.turn p.place))
+  stops : (n : ℕ) → ◌≡◌ {A = Result (Unit {0}) ℕ} (Err n) (answered (decision (holds t) call 0) tt) → Ended s roll u (Some (refused n p.turn p.place))
   unfolding playing logged
   stops n e =
       let d = a_no (decision (holds t) call 0) n e in
@@ -95,3 +107,10 @@ module _ (s : Sheet) (roll : List ℕ) (t u : Sheet) (p : Placed) (m : Meaning) 
             let same = w.2 ∙ ap (λ (o : Option ℕ). by_no o (λ _. now) (logged (changed (holds t) call) m.records now)) d in
             subst (λ (x : History). Lawful k x u) (sym same) (c.law k w.0 w.1);
       }
+
+  -- the refusal r is told as the fault f
+  pub refuses : (r : Result (Unit {0}) Refusal) (told : Result (Unit {0}) Fault) (f : Fault) → by_number r ≡ answered (decision (holds t) call 0) tt → MatchResult r (λ x. told ≡ Ok x) (λ q. IsErrAnd told (λ g. named g ≡ refused (number_of q) p.turn p.place)) → told ≡ Err f → Ended s roll u (Some (named f))
+  refuses (Ok x) told f e h is = absurd cc
+  refuses (Err q) told f e h is =
+      let n : named f ≡ refused (number_of q) p.turn p.place = subst (λ (x : Result (Unit {0}) Fault). IsErrAnd x (λ g. named g ≡ refused (number_of q) p.turn p.place)) is h in
+      subst (λ (x : Named). Ended s roll u (Some x)) (sym n) (stops (number_of q) e)

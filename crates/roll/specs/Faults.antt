@@ -40,7 +40,7 @@ by_cause (Flawed f) turn place = flawed (flaw_number f) turn place
 by_cause (Refused q) turn place = refused (number_of q) turn place
 
 abbrev pub named : Fault → Named
-named f = by_cause f.cause f.turn f.place
+named f = by_cause f.cause f.at.turn f.at.place
 
 -- a result with its flaw told by number, or its fault by what it names
 abbrev pub by_flaw : {X : Type 0} → Result X Flaw → Result X ℕ

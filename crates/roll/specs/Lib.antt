@@ -1,5 +1,6 @@
 pub mod Faults
 pub mod Records
+pub mod Stages
 pub mod Meaning
 pub mod Names
 pub mod Playing

@@ -1,11 +1,13 @@
 -- What the bytes of a roll mean: its records in order, and how they end.
-use Rattle.std.specs.Prelude.{ℕ, zero, suc, ◌+◌, ◌-◌, Bool, cond, ◌&&◌, List, [], ◌∷◌, length, drop, Some, None, Ok, Err, Option, Result, ◌==◌, nat_le, slice_index}
+use Rattle.std.specs.Prelude.{◌≡◌, ℕ, zero, suc, ◌+◌, ◌<◌, Bool, true, ◌&&◌, IfSome, is_ok, List, [], ◌∷◌, length, drop, Some, None, Ok, Err, Option, Result, ◌==◌, nat_le, slice_index}
 use Rattle.field.specs.Refusals.{Question, question, first_no}
 use Rattle.roll.specs.declared.fault.Fault.{Fault}
-use Rattle.roll.specs.declared.fault.Flaw.{Flaw}
 use Rattle.roll.specs.declared.records.Entry.{Entry}
 use Rattle.roll.specs.declared.records.Records.{Records}
-use Rattle.roll.specs.Faults.{Named, flaw_number, flawed, named}
+use Rattle.roll.specs.declared.records.Stage.{Stage}
+use Rattle.roll.specs.declared.records.Stage.TheVariants.{Heading, Record, Stopped}
+use Rattle.roll.specs.Stages.{unread, tells_at_most}
+use Rattle.roll.specs.Faults.{Named, flawed, named}
 use Rattle.roll.specs.Records.{Said, said, half, size, parsed}
 
 -- a record in its place: what it says, its turn counted from 1, and the place of its kind byte
@@ -64,27 +66,33 @@ meaning bs = begun (first_no (questions bs)) (read_from 1 5 (drop 5 bs))
 -- ---- as the code tells it
 
 abbrev pub placed : Entry → Placed
-placed e = record { said = said e.«record»; turn = e.turn; place = e.place }
+placed e = record { said = said e.«record»; turn = e.at.turn; place = e.at.place }
 
--- what comes from a reader's place on
-abbrev pub coming : Records → Meaning
-coming r = read_from r.turn r.place (drop r.place r.roll.now)
+-- what comes at a stage of reading these bytes
+abbrev pub coming : Stage → List ℕ → Meaning
+coming Heading roll = meaning roll
+coming (Record at) roll = read_from at.turn at.place (drop at.place roll)
+coming Stopped roll = over None
 
--- what a reader has before it: at turn 0 all of the roll
+-- what a reader has before it
 abbrev pub left : Records → Meaning
-left r = cond (r.turn == 0) (meaning r.roll.now) (coming r)
+left r = coming r.stage r.roll.now
 
 -- how many bytes are before it
 abbrev pub ahead : Records → ℕ
-ahead r = length r.roll.now - cond (r.turn == 0) 0 r.place
-
--- mark and version passed, or what is wrong with them
-abbrev pub passed : Result (Unit {0}) Flaw → Meaning → Meaning
-passed (Ok x) rest = rest
-passed (Err f) rest = over (Some (flawed (flaw_number f) 0 0))
+ahead r = unread r.stage (length r.roll.now)
 
 -- what a reader tells next, and what it then has before it
 abbrev pub heard : Option (Result Entry Fault) → Meaning → Meaning
 heard None rest = over None
 heard (Some (Ok e)) rest = followed (placed e) rest
 heard (Some (Err f)) rest = over (Some (named f))
+
+-- how many records and faults a reader still tells at most
+abbrev pub untold : Records → ℕ
+untold r = tells_at_most r.stage (length r.roll.now)
+
+-- a reader's turn: it tells what is next, and a record that is read leaves fewer bytes before it
+pub record Tells (before : Records) (said : Option (Result Entry Fault)) (after : Records) : Type 0 where
+  pub told : left before ≡ heard said (left after)
+  pub shorter : IfSome said (λ e. is_ok e ≡ true → ahead after < ahead before)

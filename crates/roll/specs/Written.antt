@@ -1,5 +1,6 @@
 -- The roll that is written of a sheet.
-use Rattle.std.specs.Prelude.{ℕ, ◌/◌, ◌%◌, List, [], ◌∷◌, ◌++◌, map, length, ℤ, Result}
+use Rattle.std.specs.Prelude.{ℕ, ◌/◌, ◌%◌, List, [], ◌∷◌, ◌++◌, length, ℤ, Result}
+use Rattle.std.specs.List.{flat_map}
 use Rattle.std.specs.Int.{w32}
 use Rattle.std.proofs.Common.{of_z}
 use Rattle.sheet.specs.declared.row.Row.{Row}
@@ -36,10 +37,6 @@ call_record g t = recorded call_kind (half_bytes g ++ word_bytes t)
 abbrev pub away_record : ℕ → List ℕ
 away_record g = recorded away_kind (half_bytes g)
 
-abbrev pub joined : List (List ℕ) → List ℕ
-joined [] = []
-joined (x ∷ xs) = x ++ joined xs
-
 -- the window as entered or last changed
 abbrev pub entry : Row → List ℕ
 entry r = enter_record r.number r.early r.late
@@ -59,7 +56,7 @@ heading = 84 ∷ 69 ∷ 69 ∷ 0 ∷ 1 ∷ []
 
 -- the pace, then each group in ascending number, then for each called or away group its call and, if away, its away
 abbrev pub written : Content → List ℕ
-written c = heading ++ (pace_record c.pace ++ (joined (map entry c.rows) ++ joined (map stand c.rows)))
+written c = heading ++ (pace_record c.pace ++ (flat_map entry c.rows ++ flat_map stand c.rows))
 
 -- the roll for a list with so much room, or the number of a refusal. 1: is no trial open? 12: is the list long enough?
 abbrev pub wrote : Held → ℕ → Result (List ℕ) ℕ

@@ -1,13 +1,16 @@
 //! What stops a roll.
 
-ghost use Rattle.roll.specs.Faults.{fault_line, flaw_layer, flaw_number, layer_word, named};
+ghost use Rattle.roll.specs.Faults.{fault_line, flawed, flaw_layer, flaw_number, layer_word, named};
+ghost use Rattle.roll.specs.declared.fault.Cause.TheVariants.{Flawed, Refused};
 ghost use Rattle.std.specs.Prelude.{◌≡◌, Some};
 
+use crate::records::Position;
 use field::Refusal;
+use std::error::Error;
 use std::fmt;
 
 /// What is wrong with a roll's bytes: each case is the question that was answered no, and its number.
-#[derive(Clone, Copy)]
+#[derive(Clone, Copy, Debug, PartialEq, Eq)]
 pub enum Flaw {
     /// Is the roll at most 4,096 bytes?
     TooLong = 21,
@@ -26,7 +29,7 @@ pub enum Flaw {
 }
 
 /// Where a fault lies: in the roll as a whole, in a record, or in what the sheet says to its call.
-#[derive(Clone, Copy)]
+#[derive(Clone, Copy, Debug, PartialEq, Eq)]
 pub enum Layer {
     Roll,
     Record,
@@ -34,7 +37,7 @@ pub enum Layer {
 }
 
 /// Why a roll stops.
-#[derive(Clone, Copy)]
+#[derive(Clone, Copy, Debug, PartialEq, Eq)]
 pub enum Cause {
     /// Its bytes are wrong.
     Flawed(Flaw),
@@ -43,13 +46,11 @@ pub enum Cause {
 }
 
 /// Where and why a roll stops.
-#[derive(Clone, Copy)]
+#[derive(Clone, Copy, Debug, PartialEq, Eq)]
 pub struct Fault {
     pub cause: Cause,
-    /// The record, counted from 1; 0 where the roll as a whole is wrong.
-    pub turn: usize,
-    /// The place of the record's kind byte, counted from 0; 0 where the roll as a whole is wrong.
-    pub place: usize,
+    /// The record at which it stops; turn and place 0 where the roll as a whole is wrong.
+    pub at: Position,
 }
 
 impl Flaw {
@@ -71,19 +72,46 @@ impl Flaw {
     }
 }
 
-impl Layer {
-    fn word(self) -> &'static str
-        ensures { result.now ≡ layer_word self }
-    {
-        match self {
+impl fmt::Display for Layer {
+    ghost output = { λ l. Some (layer_word l) };
+
+    fn fmt<W: fmt::Write>(&self, f: &mut fmt::Formatter<W>) -> fmt::Result {
+        f.write_str(match self {
             Layer::Roll => "roll",
             Layer::Record => "record",
             Layer::Sheet => "sheet",
-        }
+        })
+    }
+}
+
+impl From<Flaw> for Cause {
+    ghost from_gives = { λ flaw cause. cause ≡ Flawed flaw };
+
+    fn from(flaw: Flaw) -> Cause {
+        Cause::Flawed(flaw)
+    }
+}
+
+impl From<Refusal> for Cause {
+    ghost from_gives = { λ refusal cause. cause ≡ Refused refusal };
+
+    fn from(refusal: Refusal) -> Cause {
+        Cause::Refused(refusal)
     }
 }
 
 impl Fault {
+    /// What is wrong with a roll as a whole.
+    pub(crate) fn of_roll(flaw: Flaw) -> Fault
+        ensures { named result ≡ flawed (flaw_number flaw) 0 0 }
+    {
+        Fault {
+            cause: flaw.into(),
+            // No `Option`: the rules number such a fault by record 0 and place 0, and print them.
+            at: Position { turn: 0, place: 0 },
+        }
+    }
+
     /// The layer in which the fault lies.
     pub fn layer(&self) -> Layer
         ensures { result ≡ (named self.now).layer }
@@ -109,10 +137,11 @@ impl fmt::Display for Fault {
     ghost output = { λ f. Some (fault_line (named f)) };
 
     fn fmt<W: fmt::Write>(&self, f: &mut fmt::Formatter<W>) -> fmt::Result {
-        let layer = self.layer().word();
+        let layer = self.layer();
         let number = self.number();
-        let turn = self.turn;
-        let place = self.place;
+        let Position { turn, place } = self.at;
         write!(f, "FAULT {layer} {number} {turn} {place}")
     }
 }
+
+impl Error for Fault {}

@@ -17,4 +17,4 @@ pub use fault::{Cause, Fault, Flaw, Layer};
 pub use names::name_of;
 pub use playing::play;
 pub use record::Record;
-pub use records::{Entry, Records};
+pub use records::{Entry, Position, Records};

@@ -26,9 +26,8 @@ fn renamed<'a>(entry: Record<'a>, number: u16, name: &'a [u8]) -> &'a [u8]
 fn last_name(roll: &[u8], number: u16) -> Result<&[u8], Fault>
     ensures { given result ≡ name_of roll.now number }
 {
-    let mut name = &roll[0..0];
-    let mut records = Records::of(roll);
-    while let Some(entry) = records.next() {
+    let mut name: &[u8] = &[];
+    for entry in Records::of(roll) {
         name = renamed(entry?.record, number, name);
     }
     Ok(name)
@@ -40,8 +39,5 @@ pub fn name_of(roll: &[u8], number: u16) -> &[u8]
     ensures name { result.now ≡ name_of roll.now number }
     ensures short { length result.now ≤ 20 }
 {
-    match last_name(roll, number) {
-        Ok(name) => name,
-        Err(_) => &roll[0..0],
-    }
+    last_name(roll, number).unwrap_or(&[])
 }

@@ -12,18 +12,18 @@ ghost use Rattle.sheet.specs.Questions.{after, answered};
 ghost use Rattle.sheet.specs.Sheets.{at_open, holds};
 ghost use Rattle.sheet.specs.Trials.{decision};
 
-use crate::fault::{Cause, Fault};
+use crate::fault::Fault;
 use crate::record::Record;
-use crate::records::Records;
+use crate::records::{Entry, Records};
 use field::Refusal;
 use sheet::{Answer, Call, Refused, Sheet};
 
-impl Record<'_> {
-    /// The call that a record makes.
-    fn call(&self) -> Call
-        ensures { result ≡ (said self.now).call }
-    {
-        match *self {
+/// The call that a record makes.
+impl From<Record<'_>> for Call {
+    ghost from_gives = { λ entry call. call ≡ (said entry).call };
+
+    fn from(entry: Record<'_>) -> Call {
+        match entry {
             Record::Pace { seconds } => Call::Pace { seconds },
             Record::Enter {
                 number,
@@ -59,7 +59,7 @@ fn make(sheet: &mut Sheet, record: &Record<'_>) -> Result<(), Refusal>
     ensures saved { at_open sheet.new ≡ at_open sheet.old }
     ensures law { (n : ℕ) (es : History) → Lawful n es sheet.old → Lawful n (more es (event (holds sheet.old) (said «record».now).call)) sheet.new }
 {
-    match sheet.perform(record.call(), &mut [], &mut []) {
+    match sheet.perform(Call::from(*record), &mut [], &mut []) {
         Ok(Answer::Done) => Ok(()),
         Err(Refused::Alone(refusal)) => Err(refusal),
         // No record opens or ends a trial, or asks for a list or a range.
@@ -78,16 +78,12 @@ pub fn play(sheet: &mut Sheet, roll: &[u8]) -> Result<(), Fault>
     ensures saved { at_open sheet.new ≡ at_open sheet.old }
     ensures law { (n : ℕ) (es : History) → Lawful n es sheet.old → Lawful n (logged (holds sheet.old) (meaning roll.now).records es) sheet.new }
 {
-    let mut records = Records::of(roll);
-    while let Some(entry) = records.next() {
-        let entry = entry?;
-        if let Err(refusal) = make(sheet, &entry.record) {
-            return Err(Fault {
-                cause: Cause::Refused(refusal),
-                turn: entry.turn,
-                place: entry.place,
-            });
-        }
+    for entry in Records::of(roll) {
+        let Entry { record, at } = entry?;
+        make(sheet, &record).map_err(|refusal| Fault {
+            cause: refusal.into(),
+            at,
+        })?;
     }
     Ok(())
 }

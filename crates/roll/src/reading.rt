@@ -1,6 +1,6 @@
 //! Reading one record: kind, length and body, and what the body says.
 
-ghost use Rattle.std.specs.Prelude.{◌≡◌, ◌<◌, ◌≤◌, [], ◌∷◌, length, drop, MatchResult, ◌==◌};
+ghost use Rattle.std.specs.Prelude.{◌≡◌, ◌≢◌, [], ◌∷◌, length, MatchResult, ◌==◌};
 ghost use Rattle.field.specs.Refusals.{first_no, question};
 ghost use Rattle.field.specs.Strip.{word};
 ghost use Rattle.roll.specs.Faults.{by_flaw};
@@ -15,81 +15,61 @@ use crate::record::Record;
 /// The most bytes that a name has.
 const LONGEST_NAME: usize = 20;
 
-/// A group's number and window, and the bytes after them.
-#[derive(Clone, Copy)]
-struct Slot<'a> {
-    number: u16,
-    early: i32,
-    late: i32,
-    rest: &'a [u8],
+/// A body that has just so many bytes.
+fn exactly<const N: usize>(body: &[u8]) -> Result<&[u8; N], Flaw>
+    ensures { MatchResult result (λ bytes. (bytes.now ≡ body.now) × (length body.now ≡ N)) (λ f. (f ≡ WrongLength) × (length body.now ≢ N)) }
+{
+    body.try_into().map_err(|_| Flaw::WrongLength)
 }
 
 /// A body of two bytes, as a number.
 fn number(body: &[u8]) -> Result<u16, Flaw>
     ensures { by_flaw result ≡ answered (first_no (question 26 (length body.now == 2) ∷ [])) (half body.now 0) }
 {
-    let [a, b] = body else {
-        return Err(Flaw::WrongLength);
-    };
-    Ok(u16::from_be_bytes([*a, *b]))
+    Ok(u16::from_be_bytes(*exactly(body)?))
 }
 
 /// A body of six bytes: a number and a time.
 fn timed(body: &[u8]) -> Result<(u16, i32), Flaw>
     ensures { by_flaw result ≡ answered (first_no (question 26 (length body.now == 6) ∷ [])) (half body.now 0, word body.now 2) }
 {
-    let [a, b, c, d, e, f] = body else {
-        return Err(Flaw::WrongLength);
-    };
-    Ok((
-        u16::from_be_bytes([*a, *b]),
-        i32::from_be_bytes([*c, *d, *e, *f]),
-    ))
+    let [a, b, c, d, e, f] = *exactly::<6>(body)?;
+    Ok((u16::from_be_bytes([a, b]), i32::from_be_bytes([c, d, e, f])))
 }
 
-/// A body of ten bytes or more: a number and a window, and what follows.
-fn windowed(body: &[u8]) -> Result<Slot<'_>, Flaw>
-    ensures { MatchResult result (λ s. (10 ≤ length body.now) × (s.number ≡ half body.now 0) × (s.early ≡ word body.now 2) × (s.late ≡ word body.now 6) × (s.rest.now ≡ drop 10 body.now)) (λ f. (f ≡ WrongLength) × (length body.now < 10)) }
+/// Ten bytes: a number and a window.
+fn windowed(bytes: &[u8; 10]) -> (u16, i32, i32)
+    ensures { result ≡ (half bytes.now 0, word bytes.now 2, word bytes.now 6) }
 {
-    let [a, b, c, d, e, f, g, h, i, j, rest @ ..] = body else {
-        return Err(Flaw::WrongLength);
-    };
-    Ok(Slot {
-        number: u16::from_be_bytes([*a, *b]),
-        early: i32::from_be_bytes([*c, *d, *e, *f]),
-        late: i32::from_be_bytes([*g, *h, *i, *j]),
-        rest,
-    })
+    let [a, b, c, d, e, f, g, h, i, j] = *bytes;
+    (
+        u16::from_be_bytes([a, b]),
+        i32::from_be_bytes([c, d, e, f]),
+        i32::from_be_bytes([g, h, i, j]),
+    )
 }
 
 /// Whether a byte may stand in a name.
 fn is_printable(byte: u8) -> bool
     ensures { result ≡ printable byte }
 {
-    0x20 <= byte && byte <= 0x7E
+    matches!(byte, b' '..=b'~')
 }
 
 fn are_printable(name: &[u8]) -> bool
     ensures { result ≡ list_all printable name.now }
 {
-    for byte in name {
-        if !is_printable(*byte) {
-            return false;
-        }
-    }
-    true
+    name.iter().all(|byte| is_printable(*byte))
 }
 
 /// The body of an enter: a number, a window and a name.
 fn enter(body: &[u8]) -> Result<Record<'_>, Flaw>
     ensures { told result ≡ body_read enter_kind body.now }
 {
-    let Slot {
-        number,
-        early,
-        late,
-        rest: name,
-    } = windowed(body)?;
+    let Some((window, name)) = body.split_first_chunk() else {
+        return Err(Flaw::WrongLength);
+    };
+    let (number, early, late) = windowed(window);
     if name.len() > LONGEST_NAME {
         return Err(Flaw::WrongLength);
     }
@@ -108,15 +88,7 @@ fn enter(body: &[u8]) -> Result<Record<'_>, Flaw>
 fn change(body: &[u8]) -> Result<Record<'_>, Flaw>
     ensures { told result ≡ body_read change_kind body.now }
 {
-    let Slot {
-        number,
-        early,
-        late,
-        rest,
-    } = windowed(body)?;
-    if !rest.is_empty() {
-        return Err(Flaw::WrongLength);
-    }
+    let (number, early, late) = windowed(exactly(body)?);
     Ok(Record::Change {
         number,
         early,
@@ -128,6 +100,7 @@ fn change(body: &[u8]) -> Result<Record<'_>, Flaw>
 fn by_kind(kind: u8, body: &[u8]) -> Result<Record<'_>, Flaw>
     ensures { told result ≡ body_read kind body.now }
 {
+    // The letters of the rules: an enum of kinds would only be matched on once more.
     match kind as char {
         'P' => Ok(Record::Pace {
             seconds: number(body)?,
@@ -158,9 +131,8 @@ pub fn read(bytes: &[u8]) -> Result<Record<'_>, Flaw>
     let [kind, length, rest @ ..] = bytes else {
         return Err(Flaw::Torn);
     };
-    let length = usize::from(*length);
-    if rest.len() < length {
+    let Some(body) = rest.get(..usize::from(*length)) else {
         return Err(Flaw::Torn);
-    }
-    by_kind(*kind, &rest[0..length])
+    };
+    by_kind(*kind, body)
 }

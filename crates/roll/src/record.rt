@@ -1,7 +1,7 @@
 //! A record of a roll.
 
 /// What a record says. An enter borrows its group's name from the roll's bytes.
-#[derive(Clone, Copy)]
+#[derive(Clone, Copy, Debug, PartialEq, Eq)]
 pub enum Record<'a> {
     Pace {
         seconds: u16,

@@ -1,23 +1,23 @@
 //! Writing a sheet as a roll.
 
-ghost use Rattle.std.specs.Prelude.{◌≡◌, ◌+◌, ◌≤◌, ◌++◌, map, length, take, IfOk};
+ghost use Rattle.std.specs.Prelude.{◌≡◌, ◌++◌, length, take, IfOk};
 ghost use Rattle.field.specs.Refusals.{by_number};
-ghost use Rattle.page.specs.Pages.{text};
-ghost use Rattle.page.specs.Room.{most};
+ghost use Rattle.page.specs.Pages.{text, HasRoom};
 ghost use Rattle.reckoning.specs.Lists.{answer, leaves};
 ghost use Rattle.roll.specs.RoundTrip.{GivesBack};
-ghost use Rattle.roll.specs.Written.{away_record, call_record, entry, joined, pace_record, stand, written, wrote};
+ghost use Rattle.roll.specs.Written.{call_record, entry, half_bytes, recorded, stand, written, wrote};
 ghost use Rattle.sheet.specs.Sheets.{content, holds};
 
 use field::Refusal;
 use page::Page;
 use sheet::{Row, Sheet, Standing};
 
-fn pace_record(seconds: u16) -> [u8; 4]
-    ensures { result ≡ pace_record seconds }
+/// A record of a kind whose body is a number of two bytes.
+fn half_record(kind: u8, n: u16) -> [u8; 4]
+    ensures { result ≡ recorded kind (half_bytes n) }
 {
-    let [a, b] = seconds.to_be_bytes();
-    [b'P', 2, a, b]
+    let [a, b] = n.to_be_bytes();
+    [kind, 2, a, b]
 }
 
 /// An enter with no name, in the window as entered or last changed.
@@ -38,16 +38,9 @@ fn call_record(number: u16, time: i32) -> [u8; 8]
     [b'K', 6, a, b, c, d, e, f]
 }
 
-fn away_record(number: u16) -> [u8; 4]
-    ensures { result ≡ away_record number }
-{
-    let [a, b] = number.to_be_bytes();
-    [b'A', 2, a, b]
-}
-
 /// A called group's call, and of one that is away its call and then its away.
 fn add_standing(page: &mut Page, row: Row)
-    requires { length (text page.old) + length (stand row) ≤ most }
+    requires { HasRoom page.old (stand row) }
     ensures { text page.new ≡ text page.old ++ stand row }
 {
     match row.standing {
@@ -55,32 +48,8 @@ fn add_standing(page: &mut Page, row: Row)
         Standing::Called(time) => page.add(&call_record(row.number, time)),
         Standing::Away(time) => {
             page.add(&call_record(row.number, time));
-            page.add(&away_record(row.number));
+            page.add(&half_record(b'A', row.number));
         }
-    }
-}
-
-/// An enter for each group.
-fn add_entries(page: &mut Page, sheet: &Sheet)
-    requires { length (text page.old) + length (joined (map entry (content sheet.now).rows)) ≤ most }
-    ensures { text page.new ≡ text page.old ++ joined (map entry (content sheet.now).rows) }
-{
-    let mut place = 0;
-    while let Some(row) = sheet.row(place) {
-        page.add(&enter_record(row));
-        place += 1;
-    }
-}
-
-/// For each group what makes it stand as it does.
-fn add_standings(page: &mut Page, sheet: &Sheet)
-    requires { length (text page.old) + length (joined (map stand (content sheet.now).rows)) ≤ most }
-    ensures { text page.new ≡ text page.old ++ joined (map stand (content sheet.now).rows) }
-{
-    let mut place = 0;
-    while let Some(row) = sheet.row(place) {
-        add_standing(page, row);
-        place += 1;
     }
 }
 
@@ -90,9 +59,14 @@ fn page_of(sheet: &Sheet) -> Page
 {
     let mut page = Page::blank();
     page.add(b"TEE\x00\x01");
-    page.add(&pace_record(sheet.current_pace()));
-    add_entries(&mut page, sheet);
-    add_standings(&mut page, sheet);
+    page.add(&half_record(b'P', sheet.current_pace()));
+    let rows = sheet.rows().all();
+    for row in rows {
+        page.add(&enter_record(*row));
+    }
+    for row in rows {
+        add_standing(&mut page, *row);
+    }
     page
 }
 

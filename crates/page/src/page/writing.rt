@@ -1,14 +1,15 @@
 //! A page is written from a blank one on, and copied out.
 
-ghost use Rattle.std.specs.Prelude.{◌≡◌, ◌+◌, ◌≤◌, [], ◌++◌, length, decimal};
+ghost use Rattle.std.specs.Prelude.{◌≡◌, [], ◌++◌, length, decimal};
 ghost use Rattle.field.specs.Refusals.{by_number};
-ghost use Rattle.page.specs.Pages.{fitted, text};
-ghost use Rattle.page.specs.Room.{most};
+ghost use Rattle.page.specs.Pages.{fitted, text, HasRoom};
 ghost use Rattle.reckoning.specs.Lists.{answer, leaves};
 ghost use Rattle.std.specs.Fmt.{signed_decimal};
 
-use crate::page::{Page, ROOM};
+use crate::page::Page;
+use arrayvec::ArrayVec;
 use field::Refusal;
+use itoa::Buffer;
 
 impl Page {
     /// A page with no text.
@@ -16,8 +17,7 @@ impl Page {
         ensures { text result ≡ [] }
     {
         Page {
-            bytes: [0; ROOM],
-            len: 0,
+            bytes: ArrayVec::new(),
         }
     }
 
@@ -25,39 +25,32 @@ impl Page {
     pub fn text(&self) -> &[u8]
         ensures { result.now ≡ text self.now }
     {
-        &self.bytes[0..self.len]
+        self.bytes.as_slice()
     }
 
     /// Adds bytes at the end of the text.
     pub fn add(&mut self, bytes: &[u8])
-        requires { length (text self.old) + length bytes.now ≤ most }
+        requires { HasRoom self.old bytes.now }
         ensures { text self.new ≡ text self.old ++ bytes.now }
     {
-        let end = self.len + bytes.len();
-        self.bytes[self.len..end].copy_from_slice(bytes);
-        self.len = end;
+        self.bytes.try_extend_from_slice(bytes).unwrap();
     }
 
     /// Adds a number in decimal.
     pub fn add_decimal(&mut self, n: u64)
-        requires { length (text self.old) + length (decimal n) ≤ most }
+        requires { HasRoom self.old (decimal n) }
         ensures { text self.new ≡ text self.old ++ decimal n }
     {
-        if n >= 10 {
-            self.add_decimal(n / 10);
-        }
-        self.add(&[b'0' + (n % 10) as u8]);
+        self.add(Buffer::new().format(n).as_bytes());
     }
 
     /// Adds a signed number in decimal, with `-` for minus.
+    // The same line at another type: a generic function for both would be no shorter.
     pub fn add_signed(&mut self, z: i64)
-        requires { length (text self.old) + length (signed_decimal z) ≤ most }
+        requires { HasRoom self.old (signed_decimal z) }
         ensures { text self.new ≡ text self.old ++ signed_decimal z }
     {
-        if z < 0 {
-            self.add(b"-");
-        }
-        self.add_decimal(z.unsigned_abs());
+        self.add(Buffer::new().format(z).as_bytes());
     }
 
     /// Copies the text to the beginning of a list, and answers its length.
@@ -65,10 +58,11 @@ impl Page {
         ensures answer { by_number result ≡ answer (fitted (text self.now) (length list.old)) }
         ensures list { list.new ≡ leaves (fitted (text self.now) (length list.old)) list.old }
     {
-        if list.len() < self.len {
+        let text = self.text();
+        if list.len() < text.len() {
             return Err(Refusal::ListTooShort);
         }
-        list[0..self.len].copy_from_slice(self.text());
-        Ok(self.len)
+        list[..text.len()].copy_from_slice(text);
+        Ok(text.len())
     }
 }

@@ -1,20 +1,23 @@
 //! Reading a roll: its beginning, and then record by record.
 
-ghost use Rattle.std.specs.Prelude.{◌≡◌, ◌<◌, ◌≤◌, true, IfSome, is_ok};
+ghost use Rattle.std.specs.Prelude.{◌≡◌, ◌-◌, ◌<◌, ◌≤◌, true, length, drop, IfSome, is_ok};
+ghost use Rattle.std.specs.Iterator.{at_most};
+ghost use Rattle.std.specs.Result.{result_transpose};
 ghost use Rattle.field.specs.Refusals.{first_no};
 ghost use Rattle.roll.specs.Faults.{by_flaw};
-ghost use Rattle.roll.specs.Meaning.{ahead, coming, heard, left, marked, meaning, passed, questions, version_1};
+ghost use Rattle.roll.specs.Meaning.{ahead, heard, left, read_from, marked, meaning, questions, untold, version_1, Tells};
 ghost use Rattle.sheet.specs.Questions.{answered};
 
-use crate::fault::{Cause, Fault, Flaw};
+use crate::fault::{Fault, Flaw};
 use crate::reading::read;
-use crate::records::{Entry, Records};
+use crate::records::{Entry, Position, Records, Stage};
+use std::mem;
 
 /// The most bytes that a roll has.
 const LONGEST_ROLL: usize = 4_096;
 
-/// How many bytes mark and version take.
-const HEADING: usize = 5;
+/// The position of the first record, after mark and version.
+const FIRST: Position = Position { turn: 1, place: 5 };
 
 /// The version of rolls that the box reads.
 const VERSION: u16 = 1;
@@ -23,10 +26,7 @@ const VERSION: u16 = 1;
 fn has_mark(roll: &[u8]) -> bool
     ensures { result ≡ marked roll.now }
 {
-    match roll {
-        [t, e, f, ..] => *t == b'T' && *e == b'E' && *f == b'E',
-        _ => false,
-    }
+    roll.starts_with(b"TEE")
 }
 
 /// Whether the version follows the mark, and is 1.
@@ -62,66 +62,58 @@ impl<'a> Records<'a> {
     {
         Records {
             roll,
-            turn: 0,
-            place: 0,
+            stage: Stage::Heading,
         }
     }
 
-    /// The next record, or what is wrong with it or with the roll; none at the roll's end.
-    pub fn next(&mut self) -> Option<Result<Entry<'a>, Fault>>
-        ensures told { left self.old ≡ heard result (left self.new) }
-        ensures shorter { IfSome result (λ e. (is_ok e ≡ true → ahead self.new < ahead self.old)) }
+    /// The next record, if there is one, and before the first one mark and version.
+    fn read_on(&mut self) -> Result<Option<Entry<'a>>, Fault>
+        ensures told { Tells self.old (result_transpose result) self.new }
+        ensures fewer { IfSome (result_transpose result) (λ _. untold self.new < untold self.old) }
     {
-        match self.pass_heading() {
-            Ok(()) => self.following(),
-            Err(flaw) => Some(Err(Fault {
-                cause: Cause::Flawed(flaw),
-                turn: 0,
-                place: 0,
-            })),
-        }
-    }
-
-    /// Goes past mark and version, if they are still to be read.
-    fn pass_heading(&mut self) -> Result<(), Flaw>
-        ensures told { left self.old ≡ passed result (coming self.new) }
-        ensures turn { is_ok result ≡ true → 1 ≤ self.new.turn }
-        ensures shorter { ahead self.new ≤ ahead self.old }
-    {
-        if self.turn == 0 {
-            begins(self.roll)?;
-            self.place = HEADING;
-            self.turn = 1;
-        }
-        Ok(())
-    }
-
-    /// The record at the reader's place.
-    fn following(&mut self) -> Option<Result<Entry<'a>, Fault>>
-        ensures told { coming self.old ≡ heard result (coming self.new) }
-        ensures shorter { IfSome result (λ e. (is_ok e ≡ true → ahead self.new < ahead self.old)) }
-        ensures turn { self.old.turn ≤ self.new.turn }
-    {
-        if self.place == self.roll.len() {
-            return None;
-        }
-        let turn = self.turn;
-        let place = self.place;
-        match read(&self.roll[place..]) {
-            Ok(record) => {
-                self.place = place + 2 + usize::from(self.roll[place + 1]);
-                self.turn = turn + 1;
-                Some(Ok(Entry {
-                    record,
-                    turn,
-                    place,
-                }))
+        match mem::replace(&mut self.stage, Stage::Stopped) {
+            Stage::Heading => {
+                begins(self.roll).map_err(Fault::of_roll)?;
+                self.read_at(FIRST)
             }
-            Err(flaw) => Some(Err(Fault {
-                cause: Cause::Flawed(flaw),
-                turn,
-                place,
-            })),
+            Stage::Record(at) => self.read_at(at),
+            Stage::Stopped => Ok(None),
         }
+    }
+
+    /// The record at a position, if the roll does not end there.
+    fn read_at(&mut self, at: Position) -> Result<Option<Entry<'a>>, Fault>
+        requires stopped { self.old.stage ≡ Stage.Stopped }
+        requires inside { at.place ≤ length self.old.roll.now }
+        requires few { at.turn ≤ at.place }
+        ensures told { read_from at.turn at.place (drop at.place self.old.roll.now) ≡ heard (result_transpose result) (left self.new) }
+        ensures shorter { IfSome (result_transpose result) (λ e. is_ok e ≡ true → ahead self.new < length self.old.roll.now - at.place) }
+        ensures fewer { IfSome (result_transpose result) (λ _. untold self.new < length self.old.roll.now - at.place) }
+    {
+        if at.place == self.roll.len() {
+            return Ok(None);
+        }
+        let record = read(&self.roll[at.place..]).map_err(|flaw| Fault {
+            cause: flaw.into(),
+            at,
+        })?;
+        self.stage = Stage::Record(Position {
+            turn: at.turn + 1,
+            place: at.place + 2 + usize::from(self.roll[at.place + 1]),
+        });
+        Ok(Some(Entry { record, at }))
+    }
+}
+
+impl<'a> Iterator for Records<'a> {
+    type Item = Result<Entry<'a>, Fault>;
+
+    ghost next_gives = { Tells };
+
+    ghost remaining = { λ r. at_most (untold r) };
+
+    /// The next record, or what is wrong with it or with the roll; none at the roll's end and after a fault.
+    fn next(&mut self) -> Option<Result<Entry<'a>, Fault>> {
+        self.read_on().transpose()
     }
 }

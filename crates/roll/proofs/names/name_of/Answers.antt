@@ -1,8 +1,9 @@
-use Rattle.std.proofs.Common.{ℕ, ◌≤◌, List, length, sym, subst}
+use Rattle.std.proofs.Common.{◌≡◌, rules}
+use Rattle.roll.specs.Names.{name_of}
 use Rattle.roll.proofs.ShortNames.{name_of_short}
 use Rattle.roll.proofs.names.name_of.Goals as goal
 
-pub returns-in-Ok : goal.returns-in-Ok
-returns-in-Ok c =
-    let e = c.in-Ok.ensures in
-    record { name = e; short = subst (λ (bs : List ℕ). length bs ≤ 20) (sym e) (name_of_short c.args.roll.now c.args.number) }
+pub returns-clause-short : goal.returns-clause-short
+returns-clause-short c =
+    let name : c.unwrap_or.result.now ≡ name_of c.args.roll.now c.args.number = search rules in
+    rw name (name_of_short c.args.roll.now c.args.number)

@@ -1,33 +1,17 @@
-use Rattle.std.proofs.Common.{map, length, ap, arith}
+use Rattle.std.proofs.Common.{◌≡◌, length, take, get_or, ap, arith, length-append}
+use Rattle.std.proofs.lemmas.List.{take_more, flat_map_more}
 use Rattle.page.specs.Pages.{text}
-use Rattle.sheet.specs.Sheets.{content}
-use Rattle.sheet.proofs.Tried.{few}
-use Rattle.roll.specs.Written.{entry, heading, joined}
-use Rattle.roll.proofs.Adding.{added_length}
-use Rattle.roll.proofs.Round.{entries_short, stands_short}
+use Rattle.sheet.specs.Standings.{nobody}
+use Rattle.roll.specs.Written.{entry}
 use Rattle.roll.proofs.writing.page_of.Goals as goal
 
-pub add_entries-requires : goal.add_entries-requires
-add_entries-requires c =
-    let s = c.args.sheet.now in
-    let f = few s in
-    let e = entries_short (content s).rows in
-    let blank = ap length c.blank-page.ensures in
-    let mark = added_length (text c.add.new.self) (text c.blank-page.result) heading c.add.ensures in
-    let pace = added_length (text c.add-2.new.self) (text c.add.new.self) c.pace_record.result c.add-2.ensures in
-    let four = ap length c.pace_record.ensures in
-    omega arith
-
-pub add_standings-requires : goal.add_standings-requires
-add_standings-requires c =
-    let s = c.args.sheet.now in
-    let rows = (content s).rows in
-    let f = few s in
-    let e = entries_short rows in
-    let g = stands_short rows in
-    let blank = ap length c.blank-page.ensures in
-    let mark = added_length (text c.add.new.self) (text c.blank-page.result) heading c.add.ensures in
-    let pace = added_length (text c.add-2.new.self) (text c.add.new.self) c.pace_record.result c.add-2.ensures in
-    let four = ap length c.pace_record.ensures in
-    let entries = added_length (text c.add_entries.new.page) (text c.add-2.new.self) (joined (map entry rows)) c.add_entries.ensures in
-    omega arith
+pub loop-row-preserved : goal.loop-row-preserved
+loop-row-preserved c =
+    let rows = c.all-rows.result.now in
+    let i = c.loop-row.row-index in
+    let t = take_more rows i nobody c.loop-row-test.true in
+    let m = flat_map_more entry (text c.add-2.new.self) (take i rows) (get_or rows i nobody) in
+    let whole = ap length c.add-in-loop-row.ensures in
+    let both = length-append (text c.loop-row.page) c.enter_record.result in
+    let twelve : length c.enter_record.result ≡ 12 = ap length c.enter_record.ensures in
+    record { added = cc; short = omega arith }
