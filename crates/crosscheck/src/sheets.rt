@@ -145,6 +145,7 @@ const REFUSALS: [Act; 44] = [
 ];
 
 /// Makes a call that changes the sheet.
+// A match, not closures: calls stand in tables and are printed.
 fn change(sheet: &mut Sheet, act: Act) -> Option<Result<(), Refusal>>
     ensures same { SameTrial sheet.old sheet.new }
 {
@@ -160,7 +161,8 @@ fn change(sheet: &mut Sheet, act: Act) -> Option<Result<(), Refusal>>
     }
 }
 
-/// Makes a call that writes a list of so much room.
+/// Makes a call that tells: a list of so much room, or a range.
+// A match, as above.
 fn look(rt: &HostRuntime, sheet: &Sheet, act: Act) -> io::Result<()> {
     let mut starts = blank_list();
     let mut spans = blank_list();

@@ -49,6 +49,7 @@ pub extern "C" fn starter_spans(strip: &[u8], pace: u16, list: &mut [Span]) -> O
 }
 
 /// Writes the written order of a strip.
+// Not one function with the above: C calls each by its name, with a list of its own type.
 #[unsafe(no_mangle)]
 pub extern "C" fn starter_order(strip: &[u8], pace: u16, list: &mut [Start]) -> Outcome
     ensures answer { result ≡ outcome (answer (order_told pace (records strip.now) (numbers_of strip.now) (length list.old))) }

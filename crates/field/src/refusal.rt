@@ -39,6 +39,7 @@ pub enum Refusal {
 
 impl Refusal {
     /// The number of the question that was answered no.
+    // Not `From`: the number stands at each case, and `as` reads it.
     pub fn number(self) -> u8
         ensures { result ≡ number_of self }
     {

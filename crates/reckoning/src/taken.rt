@@ -62,7 +62,7 @@ impl Taken {
     }
 
     /// The same field with the window of one place cut to its early..late. A place outside alters nothing.
-    // Entry by entry: to clone an `ArrayVec` answers a result that could not be an error here.
+    // Entry by entry, as a clone would go, and one of them is cut.
     pub fn cut(&self, place: usize, late: i64) -> Taken
         requires { InTime late }
         ensures windows { result.windows.items ≡ cut self.now.windows.items place late }

@@ -55,6 +55,7 @@ pub struct Fault {
 
 impl Flaw {
     /// The number of the question that was answered no.
+    // Not `From`: the number stands at each case, and `as` reads it.
     pub fn number(self) -> u8
         ensures { result ≡ flaw_number self }
     {
@@ -107,7 +108,7 @@ impl Fault {
     {
         Fault {
             cause: flaw.into(),
-            // No `Option`: the rules number such a fault by record 0 and place 0, and print them.
+            // No `Option`: by the rules such a fault has record 0 and place 0, and they are printed.
             at: Position { turn: 0, place: 0 },
         }
     }

@@ -1,6 +1,7 @@
 //! A record of a roll.
 
 /// What a record says. An enter borrows its group's name from the roll's bytes.
+// Early and late stand beside each other, as in a row and in the bytes.
 #[derive(Clone, Copy, Debug, PartialEq, Eq)]
 pub enum Record<'a> {
     Pace {

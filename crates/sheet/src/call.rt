@@ -8,6 +8,7 @@ use field::Refusal;
 use reckoning::Range;
 
 /// What may be asked of a sheet. A group is named by its number.
+// Early and late stand beside each other, as in a row.
 pub enum Call {
     Enter { number: u16, early: i32, late: i32 },
     Change { number: u16, early: i32, late: i32 },

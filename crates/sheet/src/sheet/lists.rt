@@ -1,4 +1,5 @@
-//! The calls that tell. They borrow the sheet, and so leave it as it is.
+//! The calls that tell. They borrow the sheet, and so leave it as it is: `held` says so of the sheet, and not of the list
+//! that `writes` speaks of.
 
 ghost use Rattle.field.specs.Refusals.{by_number};
 ghost use Rattle.reckoning.specs.Order.{Plays};

@@ -94,6 +94,7 @@ impl Sheet {
         ensures law { elim request.entry [ Make call ↦ GoesOn self.old call (lists starts.old spans.old) (said result) (lists starts.new spans.new) self.new | Ask field pace place ↦ FieldTold (F.Field.windows field.now) pace place (said result) × (self.new ≡ self.old) × (starts.new ≡ starts.old) × (spans.new ≡ spans.old) ] }
         ensures alone { OneBook }
     {
+        // A match, not closures: a request is a value, and the clause tells its two cases apart.
         match request {
             Request::Make { call } => self.perform(call, starts, spans),
             Request::Ask { field, pace, place } => Ok(Answer::Ranged(range(field, pace, place)?)),

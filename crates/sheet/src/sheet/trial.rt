@@ -28,6 +28,7 @@ pub struct Returned {
 
 impl Sheet {
     /// Opens a trial, and answers its slip.
+    // Open, keep and back state all clauses themselves: no two of them come to the same but in `number`.
     pub fn open(&mut self) -> Result<Slip, Refusal>
         ensures answer { by_number result ≡ answered (decision (holds self.old) Open 0) (record { sheet = self.old.number }) }
         ensures held { content self.new ≡ content self.old }
