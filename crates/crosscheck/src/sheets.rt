@@ -179,10 +179,7 @@ fn look(rt: &HostRuntime, sheet: &Sheet, act: Act) -> io::Result<()> {
             let told = sheet.spans(first(&mut spans, room));
             tell_list(rt, "spans", told, &spans)
         }
-        Act::Range(number) => {
-            print!(rt; "  ")?;
-            tell_range(rt, sheet.range(number))
-        }
+        Act::Range(number) => tell_range(rt, "  ", sheet.range(number)),
         _ => Ok(()),
     }
 }

@@ -35,11 +35,15 @@ pub fn tell_list<T: fmt::Display>(
     }
 }
 
-/// First and last start, or the refusal, at the end of a line.
-pub fn tell_range(rt: &HostRuntime, res: Result<Range, Refusal>) -> io::Result<()> {
+/// A line that ends with first and last start, or the refusal.
+pub fn tell_range<B: fmt::Display + Drop>(
+    rt: &HostRuntime,
+    begin: B,
+    res: Result<Range, Refusal>,
+) -> io::Result<()> {
     match res {
-        Err(refusal) => println!(rt; "range refused {refusal}"),
-        Ok(Range { first, last }) => println!(rt; "range {first}..{last}"),
+        Err(refusal) => println!(rt; "{begin}range refused {refusal}"),
+        Ok(Range { first, last }) => println!(rt; "{begin}range {first}..{last}"),
     }
 }
 
@@ -52,8 +56,8 @@ pub fn tell_ranges<F: FnMut(usize) -> Result<Range, Refusal>>(
     requires { F.IsAlwaysCallable range_at }
 {
     for place in 0..3 {
-        print!(rt; "{what} at {place}: ")?;
-        tell_range(rt, range_at(place))?;
+        let res = range_at(place);
+        tell_range(rt, format_args!("{what} at {place}: "), res)?;
     }
     Ok(())
 }
