@@ -113,6 +113,8 @@ impl<'a> Iterator for Records<'a> {
     ghost remaining = { λ r. at_most (untold r) };
 
     /// The next record, or what is wrong with it or with the roll; none at the roll's end and after a fault.
+    // Inlined, since else each entry is moved through a result on the way out.
+    #[inline(always)]
     fn next(&mut self) -> Option<Result<Entry<'a>, Fault>> {
         self.read_on().transpose()
     }
