@@ -1,3 +1,4 @@
+pub mod Same
 pub mod ToldWindows
 pub mod Searching
 pub mod Passing
