@@ -1,10 +1,10 @@
 -- The value kept for each place: it moves by one step for each window that comes in, and stays right as spans join.
-use Rattle.std.proofs.Common.{◌≡◌, ℕ, zero, suc, ◌+◌, ◌-◌, ◌*◌, ◌<◌, ◌≤◌, Bool, true, false, cond, ◌&&◌, eqb, List, [], ◌∷◌, ◌++◌, map, filter, length, get_or, set, take, drop, ℤ, pos, negsuc, ◌+ℤ◌, ◌-ℤ◌, neg_ℤ, ◌≤ℤ◌, ◌<ℤ◌, Some, None, fold, Option, sym, refl, ap, ◌∙◌, inl, arith, w64, to_z, of_z}
+use Rattle.std.proofs.Common.{◌≡◌, ℕ, zero, suc, ◌+◌, ◌-◌, ◌*◌, ◌<◌, ◌≤◌, Bool, true, false, cond, ◌&&◌, eqb, List, [], ◌∷◌, ◌++◌, map, filter, length, get_or, set, take, drop, ℤ, pos, negsuc, ◌+ℤ◌, ◌-ℤ◌, neg_ℤ, ◌≤ℤ◌, ◌<ℤ◌, Some, None, fold, Option, sym, refl, ap, ◌∙◌, subst, inl, append-nil, arith, w64, to_z, of_z}
 use lib.Signed.{le_z, lt_z}
 use Rattle.std.specs.Int.{int_min}
-use Rattle.std.specs.List.{AllByRecursion}
+use Rattle.std.specs.List.{AllByRecursion, refill}
 use Rattle.std.proofs.lemmas.Int.{ints, clamps, by_lt_z}
-use Rattle.std.proofs.ByRecursion.{All-weaker}
+use Rattle.std.proofs.ByRecursion.{All-weaker, All-get_or}
 use Rattle.std.proofs.lemmas.List.{take_more, drop_more, take_all, drop_all, length-append, take-append-drop, map-append, get_or-append_right, length-map, length-take-le, set_at, append_assoc}
 use Rattle.std.proofs.lemmas.Simd.{map-map}
 use Rattle.std.proofs.lemmas.Bool.{cond-true, cond-false, and_right, and_left, and_from, ne_eqb}
@@ -15,8 +15,7 @@ use Rattle.theory.specs.Orders.{count, enclosed, counted, window_at}
 use Rattle.theory.specs.Closed.{covers, Off, greatest_outside, backward}
 use Rattle.theory.specs.Method.{backwards, settle, join}
 use Rattle.theory.proofs.Closed.{leZ_true, leZ_false, ltZ_false, covers_true, greatest_le, greatest_most}
-use Rattle.reckoning.specs.declared.values.Kept.{Kept}
-use Rattle.reckoning.specs.Values.{Fit, kept, kept_of, moved, lows, Pace, Near, Timed}
+use Rattle.reckoning.specs.Values.{Fit, Kept, paired, kept, kept_of, moved, lows, Pace, Near, Timed}
 
 pub le_z_yes : (a b : ℤ) → a ≤ℤ b → le_z a b ≡ true
 le_z_yes a b h = grind (arith, ints)
@@ -189,18 +188,19 @@ lows_all P (k ∷ ks) a = go (lows_all P ks) (le_z k.value k.late) refl a
     go ih true e a = ((λ _. a.0), ih a.1)
     go ih false e a = ((λ h. let d = leZ_false k.value k.late e in absurd (omega (arith, ints))), ih a)
 
--- a value that counts no window is no less than the cap
-abbrev pub capped : ℤ → Kept → ℤ
-capped c k = cond (le_z k.value k.late) k.value c
-
-pub capped_all : (c m : ℤ) (ks : List Kept) → m ≤ℤ c → fold int_min m (map (capped c) ks) ≡ fold int_min m (lows ks)
+-- one more value
+pub lows_more : (c : ℤ) (ks : List Kept) (k : Kept) → fold int_min c (lows (ks ++ k ∷ [])) ≡ cond (le_z k.value k.late) (int_min (fold int_min c (lows ks)) k.value) (fold int_min c (lows ks))
 unfolding lows
-capped_all c m [] h = refl
-capped_all c m (k ∷ ks) h = go (le_z k.value k.late) (capped_all c (int_min m k.value) ks (omega (arith, ints, clamps))) (capped_all c m ks h)
+lows_more c [] k = go (le_z k.value k.late)
   where
-    go : (b : Bool) → fold int_min (int_min m k.value) (map (capped c) ks) ≡ fold int_min (int_min m k.value) (lows ks) → fold int_min m (map (capped c) ks) ≡ fold int_min m (lows ks) → fold int_min (int_min m (cond b k.value c)) (map (capped c) ks) ≡ fold int_min m (map (λ (j : Kept). j.value) (cond b (k ∷ filter (λ (j : Kept). le_z j.value j.late) ks) (filter (λ (j : Kept). le_z j.value j.late) ks)))
-    go true i j = i
-    go false i j = let e : int_min m c ≡ m = omega (arith, ints, clamps, h) in ap (λ z. fold int_min z (map (capped c) ks)) e ∙ j
+    go : (b : Bool) → fold int_min c (map (λ (j : Kept). j.value) (cond b (k ∷ []) [])) ≡ cond b (int_min c k.value) c
+    go true = refl
+    go false = refl
+lows_more c (j ∷ ks) k = go (le_z j.value j.late) (lows_more (int_min c j.value) ks k) (lows_more c ks k)
+  where
+    go : (b : Bool) → fold int_min (int_min c j.value) (lows (ks ++ k ∷ [])) ≡ cond (le_z k.value k.late) (int_min (fold int_min (int_min c j.value) (lows ks)) k.value) (fold int_min (int_min c j.value) (lows ks)) → fold int_min c (lows (ks ++ k ∷ [])) ≡ cond (le_z k.value k.late) (int_min (fold int_min c (lows ks)) k.value) (fold int_min c (lows ks)) → fold int_min c (map (λ (i : Kept). i.value) (cond b (j ∷ filter (λ (i : Kept). le_z i.value i.late) (ks ++ k ∷ [])) (filter (λ (i : Kept). le_z i.value i.late) (ks ++ k ∷ [])))) ≡ cond (le_z k.value k.late) (int_min (fold int_min c (map (λ (i : Kept). i.value) (cond b (j ∷ filter (λ (i : Kept). le_z i.value i.late) ks) (filter (λ (i : Kept). le_z i.value i.late) ks)))) k.value) (fold int_min c (map (λ (i : Kept). i.value) (cond b (j ∷ filter (λ (i : Kept). le_z i.value i.late) ks) (filter (λ (i : Kept). le_z i.value i.late) ks))))
+    go true x y = x
+    go false x y = y
 
 pub lows_backwards : (p : ℤ) (ws : List Window) (f : List Span) (r : ℤ) (us : List Window) → pos 1 ≤ℤ p → lows (map (kept_of p ws f r) us) ≡ backwards p ws r f us
 unfolding lows backwards backward
@@ -341,6 +341,52 @@ partly_near p ws f g r h a t s =
     all_map (λ k. Near k.value) (part_of p ws f g r) ws
     (All-weaker Timed (λ w. Near (part_of p ws f g r w).value) (λ w q. let n = far_length ws g r w.late in near_back p f w.late (so_far ws g r w.late) h a q.2 q.3 (omega (arith, n))) ws t)
 
+-- ---- values beside their windows
+
+pub length_paired : (ws : List Window) (vs : List ℤ) → length ws ≤ length vs → length (paired ws vs) ≡ length ws
+unfolding paired
+length_paired [] vs h = refl
+length_paired (w ∷ ws) [] h = absurd (omega (arith, h))
+length_paired (w ∷ ws) (v ∷ vs) h = ap suc (length_paired ws vs (omega (arith, h)))
+
+pub length_paired_both : (ws : List Window) (vs : List ℤ) (j : ℕ) → j < length ws → j < length vs → j < length (paired ws vs)
+unfolding paired
+length_paired_both [] vs j h k = h
+length_paired_both (w ∷ ws) [] j h k = k
+length_paired_both (w ∷ ws) (v ∷ vs) zero h k = omega arith
+length_paired_both (w ∷ ws) (v ∷ vs) (suc j) h k = let l = length_paired_both ws vs j (omega (arith, h)) (omega (arith, k)) in omega (arith, l)
+
+pub paired_at : (ws : List Window) (vs : List ℤ) (j : ℕ) (d : Kept) → j < length ws → j < length vs → get_or (paired ws vs) j d ≡ valued (window_at ws j).late (get_or vs j (pos 0))
+unfolding paired
+paired_at [] vs j d h k = absurd (omega (arith, h))
+paired_at (w ∷ ws) [] j d h k = absurd (omega (arith, k))
+paired_at (w ∷ ws) (v ∷ vs) zero d h k = refl
+paired_at (w ∷ ws) (v ∷ vs) (suc j) d h k = paired_at ws vs j d (omega (arith, h)) (omega (arith, k))
+
+pub paired_set : (ws : List Window) (vs : List ℤ) (j : ℕ) (x : ℤ) → paired ws (set vs j x) ≡ set (paired ws vs) j (valued (window_at ws j).late x)
+unfolding paired
+paired_set [] vs j x = refl
+paired_set (w ∷ ws) [] j x = refl
+paired_set (w ∷ ws) (v ∷ vs) zero x = refl
+paired_set (w ∷ ws) (v ∷ vs) (suc j) x = ap (λ ks. valued w.late v ∷ ks) (paired_set ws vs j x)
+
+pub paired_map : (f : Window → ℤ) (ws : List Window) → paired ws (map f ws) ≡ map (λ w. valued w.late (f w)) ws
+unfolding paired
+paired_map f [] = refl
+paired_map f (w ∷ ws) = ap (λ ks. valued w.late (f w) ∷ ks) (paired_map f ws)
+
+-- the least value, with that of one more place
+pub least_more : (c m n : ℤ) (ws : List Window) (vs : List ℤ) (j : ℕ) → j < length ws → j < length vs → m ≡ fold int_min c (lows (take j (paired ws vs))) → n ≡ cond (le_z (get_or vs j (pos 0)) (window_at ws j).late) (int_min m (get_or vs j (pos 0))) m → n ≡ fold int_min c (lows (take (j + 1) (paired ws vs)))
+least_more c m n ws vs j h k e q =
+    let d : Kept = valued (pos 0) (pos 0) in
+    let v = get_or vs j (pos 0) in
+    let l = length_paired_both ws vs j h k in
+    q
+    ∙ ap (λ z. cond (le_z v (window_at ws j).late) (int_min z v) z) e
+    ∙ sym (lows_more c (take j (paired ws vs)) (valued (window_at ws j).late v))
+    ∙ ap (λ z. fold int_min c (lows (take j (paired ws vs) ++ z ∷ []))) (sym (paired_at ws vs j d h k))
+    ∙ ap (λ z. fold int_min c (lows z)) (sym (take_more (paired ws vs) j d l))
+
 -- ---- a list that is changed from its beginning
 
 pub changed_more : {X : Type 0} (f : X → X) (xs ys : List X) (i : ℕ) (d x : X) → i < length xs → ys ≡ map f (take i xs) ++ drop i xs → x ≡ f (get_or xs i d) → set ys i x ≡ map f (take (i + 1) xs) ++ drop (i + 1) xs
@@ -357,6 +403,29 @@ changed_at f xs ys i d h e =
     ap (λ z. get_or z i d) (e ∙ ap (λ z. map f (take i xs) ++ z) (drop_more xs i d h))
     ∙ get_or-append_right (map f (take i xs)) (get_or xs i d ∷ drop (i + 1) xs) i i d n (omega arith)
     ∙ (let z : i - i ≡ 0 = omega arith in ap (λ k. get_or (get_or xs i d ∷ drop (i + 1) xs) k d) z)
+
+pub changed_whole : {X : Type 0} (f : X → X) (xs ys : List X) (i : ℕ) → length xs ≤ i → ys ≡ map f (take i xs) ++ drop i xs → ys ≡ map f xs
+changed_whole f xs ys i h e = e ∙ ap (λ z. map f (take i xs) ++ z) (drop_all i xs h) ∙ append-nil (map f (take i xs)) ∙ ap (map f) (take_all i xs h)
+
+-- a list that is written back in its whole length
+pub refilled : {X : Type 0} (xs ws : List X) → length ws ≡ length xs → refill (length xs) xs ws ≡ ws
+refilled xs ws e =
+    let a : length xs ≤ length ws = omega (arith, e) in
+    let b : length ws ≤ length xs = omega (arith, e) in
+    ap (λ z. take (length xs) (ws ++ z)) (drop_all (length ws) xs a) ∙ ap (take (length xs)) (append-nil ws) ∙ take_all (length xs) ws b
+
+-- what is not yet changed is as it was
+pub paired_same : (g : Kept → Kept) (ws : List Window) (os vs : List ℤ) (i : ℕ) → length ws ≤ length os → length vs ≡ length os → i < length ws → paired ws vs ≡ map g (take i (paired ws os)) ++ drop i (paired ws os) → valued (window_at ws i).late (get_or vs i (pos 0)) ≡ get_or (paired ws os) i (valued (pos 0) (pos 0))
+paired_same g ws os vs i r n h e =
+    let d : Kept = valued (pos 0) (pos 0) in
+    let l = length_paired ws os r in
+    sym (paired_at ws vs i d h (omega (arith, r, n, h))) ∙ changed_at g (paired ws os) (paired ws vs) i d (omega (arith, l, h)) e
+
+pub near_at : (g : Kept → Kept) (ws : List Window) (os vs : List ℤ) (i : ℕ) → length ws ≤ length os → length vs ≡ length os → i < length ws → paired ws vs ≡ map g (take i (paired ws os)) ++ drop i (paired ws os) → AllByRecursion (λ k. Near k.value) (paired ws os) → Near (get_or vs i (pos 0))
+near_at g ws os vs i r n h e a =
+    let d : Kept = valued (pos 0) (pos 0) in
+    let l = length_paired ws os r in
+    subst (λ (k : Kept). Near k.value) (sym (paired_same g ws os vs i r n h e)) (All-get_or (λ k. Near k.value) (paired ws os) i d (omega (arith, l, h)) a)
 
 pub moved_back : (p : ℤ) (f : List Span) (l : ℤ) (k j : Kept) (v : ℤ) → k ≡ j → le_z l k.late ≡ true → v ≡ greatest_outside f (k.value -ℤ p) → valued k.late v ≡ moved p f l j
 moved_back p f l k j v q t e = ap (valued k.late) (e ∙ sym (cond-true (le_z l k.late) (greatest_outside f (k.value -ℤ p)) k.value t)) ∙ ap (moved p f l) q

@@ -14,9 +14,8 @@ use Rattle.theory.specs.Closed.{backward}
 use Rattle.theory.specs.Method.{backwards, then, steps, forbidden}
 use Rattle.theory.proofs.Settled.{count_none}
 use Rattle.theory.proofs.Closed.{leZ_true}
-use Rattle.reckoning.specs.Values.{Fit, Timed, rest, kept, kept_of, lows, Next, Pace, Near}
+use Rattle.reckoning.specs.Values.{Fit, Timed, Kept, rest, kept, kept_of, lows, Next, Pace, Near}
 use Rattle.reckoning.proofs.StepsBack.{back_stays, lows_all, lows_backwards, join_capped, closing, lt_z_yes, lt_z_no, back_le, map_alike, each, map_all, valued}
-use Rattle.reckoning.specs.declared.values.Kept.{Kept}
 use Rattle.reckoning.proofs.Plain.{real}
 use Rattle.reckoning.proofs.Rest.{all_left, left_length}
 

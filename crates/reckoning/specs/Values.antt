@@ -8,7 +8,6 @@ use Rattle.theory.specs.Closed.{greatest_outside, backward}
 use Rattle.theory.specs.Method.{earlies}
 use Rattle.field.specs.declared.window.Window.{Window}
 use Rattle.theory.specs.declared.span.Span.{Span}
-use Rattle.reckoning.specs.declared.values.Kept.{Kept}
 
 -- the newest span first: each ends before those found before it
 abbrev pub Falling : List Span → Type 0
@@ -33,6 +32,17 @@ Timed w = (negsuc 86399 ≤ℤ w.early) × (w.early ≤ℤ pos 86400) × (negsuc
 -- the earlies before b that are left, from greatest to least
 unfoldable pub rest : List Window → ℤ → List ℤ
 rest ws b = filter (λ x. int_lt x b) (earlies ws)
+
+-- the late of a place, and the value kept for it
+pub record Kept : Type 0 where
+  pub late : ℤ
+  pub value : ℤ
+
+-- each value beside the late of its window
+unfoldable pub paired : List Window → List ℤ → List Kept
+paired [] vs = []
+paired (w ∷ ws) [] = []
+paired (w ∷ ws) (v ∷ vs) = record { late = w.late; value = v } ∷ paired ws vs
 
 -- the value kept for a window once the windows from r on have come in
 abbrev pub kept_of : ℤ → List Window → List Span → ℤ → Window → Kept

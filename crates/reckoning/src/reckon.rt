@@ -36,7 +36,7 @@ pub fn reckon(taken: &Taken) -> Result<Closed, Refusal>
     let mut bound = 86_401;
     while let Some(early) = next_early(taken.windows(), bound) {
         come_in(taken, &closed, early, &mut values);
-        let m = least(&values, early + pace);
+        let m = least(taken.windows(), &values, early + pace);
         if m < early {
             return Err(Refusal::NoOrder);
         }
@@ -47,6 +47,8 @@ pub fn reckon(taken: &Taken) -> Result<Closed, Refusal>
 }
 
 /// The field and its closed spans, for a call that writes a list with so much room.
+// Inlined, since else its two lists are moved three times on the way out.
+#[inline(always)]
 pub fn for_list<F: Field>(field: &F, pace: u16, room: usize) -> Result<(Taken, Closed), Refusal>
     ensures told { MatchResult result (λ r. (asked pace (F.Field.windows field.now) room ≡ None) × (r.0.windows.items ≡ F.Field.windows field.now) × (r.0.pace ≡ pos pace) × (forbidden (pos pace) (F.Field.windows field.now) ≡ Some (reverse r.1.spans.items))) (λ q. decided (asked pace (F.Field.windows field.now) room) (forbidden (pos pace) (F.Field.windows field.now)) ≡ Err (number_of q)) }
     ensures few { IfOk result (λ r. array_vec_len r.1.spans ≤ length (F.Field.windows field.now)) }

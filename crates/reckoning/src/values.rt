@@ -1,7 +1,7 @@
 //! The value kept for each place while the earlies fall.
 
-ghost use Rattle.std.specs.Prelude.{◌≡◌, [], map, reverse, pos, ◌+ℤ◌, fold, MatchOption, if◌then◌else◌, int_le, int_lt};
-ghost use Rattle.reckoning.specs.Values.{Timed, Near, Next, rest, kept, lows, moved};
+ghost use Rattle.std.specs.Prelude.{◌≡◌, ◌≤◌, [], map, reverse, length, pos, ◌+ℤ◌, fold, MatchOption, if◌then◌else◌, int_le, int_lt};
+ghost use Rattle.reckoning.specs.Values.{Timed, Near, Next, rest, paired, kept, lows, moved};
 ghost use Rattle.std.specs.Int.{int_min};
 ghost use Rattle.std.specs.List.{AllByRecursion, find};
 
@@ -10,57 +10,41 @@ use crate::taken::Taken;
 use arrayvec::ArrayVec;
 use field::Window;
 
-/// The late of a place, and the value kept for it.
-#[derive(Clone, Copy, Default)]
-pub struct Kept {
-    late: i64,
-    value: i64,
-}
-
-impl Kept {
-    /// The value where it counts a window, and else `cap`.
-    fn counted(&self, cap: i64) -> i64
-        ensures { result ≡ (if int_le self.now.value self.now.late then self.now.value else cap) }
-    {
-        if self.value <= self.late {
-            self.value
-        } else {
-            cap
-        }
-    }
-}
-
 /// No window has come in yet: each value is the late and the pace.
-pub fn begin(taken: &Taken) -> ArrayVec<Kept, 64>
-    ensures { result.items ≡ map (λ w. record { late = w.late; value = w.late +ℤ taken.now.pace }) taken.now.windows.items }
+pub fn begin(taken: &Taken) -> ArrayVec<i64, 64>
+    ensures { result.items ≡ map (λ w. w.late +ℤ taken.now.pace) taken.now.windows.items }
 {
     let mut values = ArrayVec::new();
     for window in taken.windows() {
-        values.push(Kept {
-            late: window.late,
-            value: window.late + taken.pace(),
-        });
+        values.push(window.late + taken.pace());
     }
     values
 }
 
 /// A window with this late comes in: one step back for each place whose late is no earlier.
-fn move_back(taken: &Taken, closed: &Closed, late: i64, values: &mut ArrayVec<Kept, 64>)
-    requires { AllByRecursion (λ k. Near k.value) values.old.items }
-    ensures { values.new.items ≡ map (moved taken.now.pace (reverse closed.now.spans.items) late) values.old.items }
+fn move_back(taken: &Taken, closed: &Closed, late: i64, values: &mut [i64])
+    requires room { length taken.now.windows.items ≤ length values.old }
+    requires near { AllByRecursion (λ k. Near k.value) (paired taken.now.windows.items values.old) }
+    ensures { paired taken.now.windows.items values.new ≡ map (moved taken.now.pace (reverse closed.now.spans.items) late) (paired taken.now.windows.items values.old) }
 {
+    let windows = taken.windows();
     let pace = taken.pace();
-    for kept in values.iter_mut() {
-        if late <= kept.late {
-            kept.value = closed.greatest_outside(kept.value - pace);
-        }
+    // By index: values lie beside the windows, since one list of pairs misses the bar of speed for 64 like windows.
+    for at in 0..windows.len() {
+        // Written in either case: a write in one case alone misses it too.
+        values[at] = if late <= windows[at].late {
+            closed.greatest_outside(values[at] - pace)
+        } else {
+            values[at]
+        };
     }
 }
 
 /// The windows with this early come in.
-pub fn come_in(taken: &Taken, closed: &Closed, early: i64, values: &mut ArrayVec<Kept, 64>)
-    requires { values.old.items ≡ kept taken.now.pace taken.now.windows.items (reverse closed.now.spans.items) (early +ℤ pos 1) }
-    ensures { values.new.items ≡ kept taken.now.pace taken.now.windows.items (reverse closed.now.spans.items) early }
+pub fn come_in(taken: &Taken, closed: &Closed, early: i64, values: &mut [i64])
+    requires room { length taken.now.windows.items ≤ length values.old }
+    requires kept { paired taken.now.windows.items values.old ≡ kept taken.now.pace taken.now.windows.items (reverse closed.now.spans.items) (early +ℤ pos 1) }
+    ensures { paired taken.now.windows.items values.new ≡ kept taken.now.pace taken.now.windows.items (reverse closed.now.spans.items) early }
 {
     for window in taken.windows() {
         if window.early == early {
@@ -69,12 +53,28 @@ pub fn come_in(taken: &Taken, closed: &Closed, early: i64, values: &mut ArrayVec
     }
 }
 
-/// The least value that counts a window, or `cap` if that is less.
-pub fn least(values: &[Kept], cap: i64) -> i64
-    ensures { result ≡ fold int_min cap (lows values.now) }
+/// The lesser of the value and m, where the value counts the window.
+fn lesser(window: Window, value: i64, m: i64) -> i64
+    ensures { result ≡ (if int_le value window.late then int_min m value else m) }
 {
-    // Not `filter`, which misses the bar of speed here.
-    values.iter().map(|k| k.counted(cap)).fold(cap, i64::min)
+    if value <= window.late && value < m {
+        value
+    } else {
+        m
+    }
+}
+
+/// The least value that counts a window, or `cap` if that is less.
+pub fn least(windows: &[Window], values: &[i64], cap: i64) -> i64
+    requires room { length windows.now ≤ length values.now }
+    ensures { result ≡ fold int_min cap (lows (paired windows.now values.now)) }
+{
+    let mut m = cap;
+    // By index, as in `move_back`.
+    for place in 0..windows.len() {
+        m = lesser(windows[place], values[place], m);
+    }
+    m
 }
 
 /// The first early before `bound`.

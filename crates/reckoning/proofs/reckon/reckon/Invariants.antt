@@ -1,12 +1,13 @@
-use Rattle.std.proofs.Common.{◌≡◌, reverse, length}
-use Rattle.reckoning.specs.Values.{rest, kept}
+use Rattle.std.proofs.Common.{◌≡◌, ◌≤◌, reverse, length}
+use Rattle.reckoning.specs.Values.{rest, paired, kept}
 use Rattle.reckoning.proofs.Turn.{Along}
 use Rattle.reckoning.proofs.reckon.reckon.Given as goal
 
 abbrev pub invariant-loop-early : goal.invariant-loop-early
 invariant-loop-early l = record {
   along : Along l.taken.pace l.taken.windows.items l.bound (reverse l.closed.spans.items);
-  values : l.values.items ≡ kept l.taken.pace l.taken.windows.items (reverse l.closed.spans.items) l.bound;
+  room : length l.taken.windows.items ≤ length l.values.items;
+  values : paired l.taken.windows.items l.values.items ≡ kept l.taken.pace l.taken.windows.items (reverse l.closed.spans.items) l.bound;
 }
 
 abbrev pub decreases-loop-early : goal.decreases-loop-early

@@ -2,11 +2,9 @@ use Rattle.std.proofs.Common.{◌<◌, ◌≤◌, map, get_or, length, reverse, 
 use Rattle.std.specs.List.{AllByRecursion}
 use Rattle.field.specs.Windows.{outside}
 use Rattle.field.specs.declared.window.Window.{Window}
-use Rattle.arrayvec.specs.ArrayVec.{ArrayVec}
-use Rattle.reckoning.specs.declared.values.Kept.{Kept}
 use Rattle.theory.specs.Orders.{window_at}
 use Rattle.std.proofs.lemmas.Int.{to_z-of_z}
-use Rattle.reckoning.specs.Values.{Fit, Near, Timed, moved, kept}
+use Rattle.reckoning.specs.Values.{Kept, Fit, Near, Timed, paired, moved, kept}
 use Rattle.std.proofs.ByRecursion.{All-get_or}
 use Rattle.reckoning.proofs.Plain.{real_time}
 use Rattle.reckoning.proofs.Lookups.{all_reverse}
@@ -16,14 +14,14 @@ use Rattle.reckoning.proofs.values.come_in.Goals.{then-window-early, else-window
 
 pub loop-window-init : goal.loop-window-init
 loop-window-init c =
-    c.requires
+    c.requires.kept
     ∙ partly_none c.args.taken.now.pace c.args.taken.now.windows.items (reverse c.args.closed.now.spans.items) c.args.early
     ∙ ap (partly c.args.taken.now.pace c.args.taken.now.windows.items (reverse c.args.closed.now.spans.items) 0) (sym (to_z-of_z w64 c.args.early c.ranges.early))
 
-pub move_back-requires : goal.move_back-requires
-move_back-requires c =
+pub move_back-requires-clause-near : goal.move_back-requires-clause-near
+move_back-requires-clause-near c =
     let t = c.args.taken.now in
-    subst (AllByRecursion (λ k. Near k.value)) (sym c.loop-window.invariant)
+    subst (AllByRecursion (λ (k : Kept). Near k.value)) (sym c.loop-window.invariant)
     (partly_near t.pace t.windows.items (reverse c.args.closed.now.spans.items) c.loop-window.window-index _ t.paced (all_reverse Fit c.args.closed.now.spans.items c.args.closed.now.fit) t.timed (subst (λ z. length z ≤ 64) c.windows-window-items.ensures.windows c.windows-window-items.ensures.few))
 
 pub loop-window-preserved : goal.loop-window-preserved
@@ -42,13 +40,13 @@ loop-window-preserved c =
     let late = ap (λ (w : Window). to_z w64 (of_z w64 w.late)) q ∙ real_time (window_at ws g).late timed.2 timed.3 in
     elim c.if-window-early.branch [
       | then-window-early w ↦
-          ap (λ (v : ArrayVec Kept). v.items) w.values-is
+          ap (paired ws) w.values-is
           ∙ w.move_back.ensures
           ∙ ap (map (moved t.pace f (to_z w64 (of_z w64 win.late)))) c.loop-window.invariant
           ∙ ap (λ z. map (moved t.pace f z) (partly t.pace ws f g r)) late
           ∙ partly_here t.pace ws f g r l (sym early ∙ sym real_early ∙ ap (to_z w64) w.if-window-early.true)
       | else-window-early w ↦
-          ap (λ (v : ArrayVec Kept). v.items) w.values-is
+          ap (paired ws) w.values-is
           ∙ c.loop-window.invariant
           ∙ partly_other t.pace ws f g r l (λ z. w.if-window-early.false (ap (of_z w64) (early ∙ z ∙ to_z-of_z w64 c.args.early c.ranges.early)))
     ]
