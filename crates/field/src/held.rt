@@ -1,8 +1,9 @@
 //! The layer that gives one place another window.
 
-ghost use Rattle.std.specs.Prelude.{◌≡◌, slice_set};
-ghost use Rattle.field.specs.Windows.{window, Told};
+ghost use Rattle.std.specs.Prelude.{◌≡◌, ◌<◌, slice_set};
+ghost use Rattle.field.specs.Windows.{window};
 ghost use Rattle.field.specs.Held.{held_told};
+ghost use Rattle.std.specs.Int.Signed.{mag};
 
 use crate::interface::{Field, Numbered};
 use crate::window::Window;
@@ -13,7 +14,8 @@ pub struct Held<F> {
     below: F,
     place: usize,
     window: Window,
-    ghost fit: { Told window.early × Told window.late },
+    ghost fitting: { mag window.early < 2147483648 },
+    ghost fitted: { mag window.late < 2147483648 },
 }
 
 impl<F> Held<F> {
@@ -33,7 +35,7 @@ impl<F> Held<F> {
 impl<F: Field> Field for Held<F> {
     ghost windows = { λ s. slice_set (F.Field.windows s.below) s.place s.window };
 
-    ghost bounded = { λ s k. held_told _ s.place s.window s.fit (F.Field.bounded s.below) k };
+    ghost bounded = { λ s k. held_told _ s.place s.window s.fitting s.fitted (F.Field.bounded s.below) k };
 
     fn count(&self) -> usize {
         self.below.count()
