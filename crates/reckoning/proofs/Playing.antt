@@ -1,12 +1,14 @@
 -- The written order, turn by turn.
-use Rattle.std.proofs.Common.{◌≡◌, ℕ, zero, suc, ◌+◌, ◌-◌, ◌*◌, ◌<◌, ◌≤◌, true, not, eqb, List, [], ◌∷◌, ◌++◌, map, length, get_or, take, ℤ, pos, negsuc, ◌+ℤ◌, ◌≤ℤ◌, fold, Option, Some, None, IfSome, sym, refl, ap, ◌∙◌, subst, inr, append-nil, append_assoc, arith}
+use Rattle.std.proofs.Common.{◌≡◌, ℕ, zero, suc, ◌+◌, ◌-◌, ◌*◌, ◌<◌, ◌≤◌, Bool, true, false, filter, set, not, eqb, List, [], ◌∷◌, ◌++◌, map, length, get_or, take, ℤ, pos, negsuc, ◌+ℤ◌, ◌≤ℤ◌, fold, Option, Some, None, IfSome, sym, refl, ap, ◌∙◌, subst, inr, append-nil, append_assoc, arith}
 use Rattle.std.specs.Int.{int_min, int_max}
 use Rattle.std.specs.Ordering.{min_by_ordering, int_cmp, ord_max}
 use Rattle.std.specs.Option.{option_map}
 use Rattle.std.specs.List.{AllByRecursion, reduce}
 use Rattle.std.proofs.lemmas.Int.{ints, clamps}
 use Rattle.std.proofs.ByRecursion.{All-weaker, all_kept_by}
-use Rattle.std.proofs.lemmas.List.{take_more, length-take-le, length_push}
+use Rattle.std.proofs.lemmas.List.{take_more, take_all, length-take-le, length_push, get_or_default}
+use Rattle.std.proofs.lemmas.Bool.{not_from_false, not_from_true, ne_eqb, eq-eqb}
+use Rattle.std.proofs.lemmas.List.Filters.{FiltersInPlace, FiltersInPlace-more_no, FiltersInPlace-more_set}
 use Rattle.field.specs.declared.window.Window.{Window}
 use Rattle.theory.specs.declared.span.Span.{Span}
 use Rattle.theory.specs.declared.group.Group.{Group}
@@ -115,6 +117,31 @@ least_soon : (gs : List Group) (e : ℤ) → least_of gs ≡ Some e → AllByRec
 unfolding least_of
 least_soon [] e l a = cc
 least_soon (g ∷ gs) e l a = let k : least_early g gs ≡ e = cc in subst (λ z. z ≤ℤ pos 86400) k (early_soon g gs a)
+
+-- ---- taking a group out
+
+-- a filler
+abbrev pub noone : Group
+noone = record { place = 0; win = outside }
+
+abbrev pub others : ℕ → Group → Bool
+others place g = not (eqb g.place place)
+
+pub remove_keep : (place : ℕ) (xs ys zs : List Group) (k m i : ℕ) → i < length ys → ((get_or ys i noone).place ≡ place → ⊥) → zs ≡ set ys k (get_or ys i noone) → m ≡ k + 1 → FiltersInPlace (others place) xs ys k i → FiltersInPlace (others place) xs zs m (i + 1)
+remove_keep place xs ys zs k m i l n e d h =
+    let x = get_or ys i noone in
+    let t : others place x ≡ true = not_from_false (eqb x.place place) (ne_eqb x.place place n) in
+    subst (λ z. FiltersInPlace (others place) xs z m (i + 1)) (sym e) (subst (λ z. FiltersInPlace (others place) xs (set ys k x) z (i + 1)) (sym d) (FiltersInPlace-more_set h l t (get_or_default ys i noone x l)))
+
+pub remove_skip : (place : ℕ) (xs ys zs : List Group) (k m i : ℕ) → i < length ys → (get_or ys i noone).place ≡ place → zs ≡ ys → m ≡ k → FiltersInPlace (others place) xs ys k i → FiltersInPlace (others place) xs zs m (i + 1)
+remove_skip place xs ys zs k m i l n e d h =
+    let x = get_or ys i noone in
+    let t : others place x ≡ false = not_from_true (eqb x.place place) (eq-eqb x.place place n) in
+    subst (λ z. FiltersInPlace (others place) xs z m (i + 1)) (sym e) (subst (λ z. FiltersInPlace (others place) xs ys z (i + 1)) (sym d) (FiltersInPlace-more_no h l t (get_or_default ys i noone x l)))
+
+pub removed : (place : ℕ) (xs ys : List Group) (k i : ℕ) → length xs ≤ i → FiltersInPlace (others place) xs ys k i → take k ys ≡ without place xs
+unfolding without
+removed place xs ys k i a h = h.front ∙ ap (filter (others place)) (take_all i xs a)
 
 -- ---- midway: what is played so far, and then what is left from t on, is what is played in all
 

@@ -5,7 +5,7 @@ ghost use Rattle.field.specs.Refusals.{by_number};
 ghost use Rattle.reckoning.specs.Lists.{answer, leaves, Thirteen};
 ghost use Rattle.reckoning.specs.Order.{least_of, chosen_of, played, start_of, order_told, Plays};
 ghost use Rattle.std.specs.Option.{option_map};
-ghost use Rattle.theory.specs.Written.{by_place};
+ghost use Rattle.theory.specs.Written.{by_place, without};
 
 use crate::closed::Closed;
 use crate::reckon::for_list;
@@ -45,6 +45,21 @@ fn next_at(time: i64, groups: &[Group]) -> Option<usize>
         .map(|group| group.place)
 }
 
+/// Brings the groups but that of a place to the front, in their order, and says how many they are.
+// Not `retain` of the list, which swaps what it keeps: an order of like windows takes up to 1.4 times as long by it.
+fn keep_others(groups: &mut [Group], place: usize) -> usize
+    ensures { take result groups.new ≡ without place groups.old }
+{
+    let mut kept = 0;
+    for i in 0..groups.len() {
+        if groups[i].place != place {
+            groups[kept] = groups[i];
+            kept += 1;
+        }
+    }
+    kept
+}
+
 /// Plays a field outside its closed spans: the places with their starts.
 fn play(taken: &Taken, closed: &Closed) -> ArrayVec<Played, 64>
     ensures { result.items ≡ played taken.now.pace (reverse closed.now.spans.items) taken.now.windows.items }
@@ -56,7 +71,8 @@ fn play(taken: &Taken, closed: &Closed) -> ArrayVec<Played, 64>
         let time = closed.least_outside(free.max(early));
         let place = next_at(time, &groups).unwrap();
         turns.push(Played { place, time });
-        groups.retain(|group| group.place != place);
+        let kept = keep_others(&mut groups, place);
+        groups.truncate(kept);
         free = time + taken.pace();
     }
     turns

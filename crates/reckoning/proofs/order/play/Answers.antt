@@ -1,7 +1,6 @@
-use Rattle.std.proofs.Common.{rules, ℕ, not, eqb, ◌≡◌, ◌<◌, ◌≤◌, length, reverse, w64, ◌+ℤ◌, [], ◌∷◌, ◌++◌, Some, IsSome, to_z, of_z, sym, refl, ap, ◌∙◌, subst, lit<, arith}
+use Rattle.std.proofs.Common.{rules, ℕ, ◌≡◌, ◌<◌, ◌≤◌, length, take, reverse, w64, ◌+ℤ◌, [], ◌∷◌, ◌++◌, Some, IsSome, to_z, of_z, sym, refl, ap, ◌∙◌, subst, lit<, arith}
 use Rattle.std.specs.Int.{int_max}
 use Rattle.std.proofs.lemmas.Int.{ints, to_z-of_z}
-use Rattle.arrayvec.proofs.ArrayVecLemmas.{filter-from_retain}
 use Rattle.theory.specs.declared.group.Group.{Group}
 use Rattle.theory.specs.Closed.{least_outside}
 use Rattle.theory.specs.Written.{by_place, without}
@@ -9,9 +8,10 @@ use Rattle.reckoning.specs.Values.{Fit, Near}
 use Rattle.reckoning.specs.Order.{least_of, chosen_of}
 use Rattle.reckoning.proofs.Lookups.{all_reverse}
 use Rattle.reckoning.proofs.Plain.{real}
+use Rattle.reckoning.proofs.StepsBack.{refilled}
 use Rattle.reckoning.proofs.Playing.{midway_begin, midway_turn, midway_read, midway_near, midway_end, fewer, next_read, max_is}
 use Rattle.reckoning.proofs.order.play.Goals as goal
-use Rattle.reckoning.proofs.order.play.Goals.{After-next_at, After-retain}
+use Rattle.reckoning.proofs.order.play.Goals.{After-next_at, After-truncate}
 
 pub loop-early-init : goal.loop-early-init
 loop-early-init c = midway_begin _ _ _ _ _ c.args.taken.now.timed c.new-turns.ensures (c.number-groups.ensures ∙ ap (by_place 0) c.windows.ensures.windows)
@@ -51,15 +51,21 @@ push-requires c =
 pub overflow_add-free : goal.overflow_add-free
 overflow_add-free c = let n = start_near (goal.at.overflow_add-free c).After-next_at in search (rules, ints)
 
-left_is : (c : After-retain) (i : ℕ) → c.unwrap-place.result ≡ i → c.retain.new.self.items ≡ without i c.loop-early.groups.items
-unfolding without
-left_is c i e = filter-from_retain _ (λ g. not (eqb g.place c.unwrap-place.result)) _ (λ x b f' y k. search rules) _ _ c.retain.ensures.filtered ∙ ap (λ i. without i c.loop-early.groups.items) e
+left_is : (c : After-truncate) (i : ℕ) → c.unwrap-place.result ≡ i → c.truncate.new.self.items ≡ without i c.loop-early.groups.items
+left_is c i e =
+    let xs = c.loop-early.groups.items in
+    let same = c.deref_mut.ensures.value in
+    c.truncate.ensures.items
+    ∙ ap (take c.keep_others-kept.result) (refilled xs c.keep_others-kept.new.groups (c.keep_others-kept.auto.groups ∙ ap length same))
+    ∙ c.keep_others-kept.ensures
+    ∙ ap (λ ys. without c.unwrap-place.result ys) same
+    ∙ ap (λ i. without i xs) e
 
 pub loop-early-smaller : goal.loop-early-smaller
 loop-early-smaller c =
     let n = next_is (goal.at.loop-early-smaller c).After-next_at in
     let i : c.unwrap-place.result ≡ n.0.place = cc (c.unwrap-place.ensures, n.2) in
-    let r = left_is (goal.at.loop-early-smaller c).After-retain n.0.place i in
+    let r = left_is (goal.at.loop-early-smaller c).After-truncate n.0.place i in
     subst (λ z. length z < length c.loop-early.groups.items) (sym r) (fewer _ c.loop-early.groups.items n.0 n.1)
 
 pub loop-early-preserved : goal.loop-early-preserved
@@ -72,7 +78,7 @@ loop-early-preserved c =
     let n = next_is k in
     let i : c.unwrap-place.result ≡ n.0.place = cc (c.unwrap-place.ensures, n.2) in
     midway_read P (reverse c.args.closed.now.spans.items) c.args.taken.now.windows.items _ _ (U +ℤ P) _ _ _
-    (c.push.ensures.items ∙ ap (λ i. c.loop-early.turns.items ++ record { place = i; time = U } ∷ []) i) (to_z-of_z w64 _ (search (rules, ints)) ∙ ap (λ z. U +ℤ z) (real c.pace.result c.pace.type_inv ∙ c.pace.ensures.pace)) (left_is (goal.at.loop-early-preserved c).After-retain n.0.place i)
+    (c.push.ensures.items ∙ ap (λ i. c.loop-early.turns.items ++ record { place = i; time = U } ∷ []) i) (to_z-of_z w64 _ (search (rules, ints)) ∙ ap (λ z. U +ℤ z) (real c.pace.result c.pace.type_inv ∙ c.pace.ensures.pace)) (left_is (goal.at.loop-early-preserved c).After-truncate n.0.place i)
     (midway_turn P (reverse c.args.closed.now.spans.items) c.args.taken.now.windows.items c.loop-early.turns.items (to_z w64 c.loop-early.free-bits) c.loop-early.groups.items c.in-Some.early U n.0
     pace (all_reverse Fit c.args.closed.now.spans.items c.args.closed.now.fit) c.loop-early.invariant (some_left k) (start_is k) n.1)
 
